@@ -1,0 +1,6 @@
+pub mod Tools
+pub mod Mesh
+pub mod Steps
+pub mod Cells
+pub mod Marks
+pub mod Answers
