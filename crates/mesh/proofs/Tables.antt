@@ -67,4 +67,3 @@ count-mono n p q h = sum-mono n _ _ λ k l. bit-le (p k) (q k) (h k l)
 
 pub count-tight : (n : ℕ) (p q : ℕ → Bool) → ((k : ℕ) → k < n → T (p k) → T (q k)) → count n q ≤ count n p → (k : ℕ) → k < n → T (q k) → T (p k)
 count-tight n p q h t k l = le-bit (q k) (p k) (sum-tight n _ _ (λ i r. bit-le (p i) (q i) (h i r)) t k l)
-
