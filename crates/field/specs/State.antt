@@ -20,8 +20,11 @@ abbrev pub heard : List ℕ → ℕ → ℕ → ℕ
 heard s k j = getD s (7 * k + 1 + j) 0
 
 -- the map that a state tells: "every other call on a state reads from it which nodes are faulty (own byte 1)"
-unfoldable pub mapIn : Sizes → List ℕ → Map
-mapIn S s = mapOf S (table (λ k. bit (eqb (own s k) 1)) (nodes S))
+unfoldable pub cellsIn : Sizes → List ℕ → List ℕ
+cellsIn S s = table (λ k. bit (eqb (own s k) 1)) (nodes S)
+
+abbrev pub mapIn : Sizes → List ℕ → Map
+mapIn S s = mapOf S (cellsIn S s)
 
 -- node k is faulty; node k works
 abbrev pub faultyNode : Map → ℕ → Bool
