@@ -88,3 +88,7 @@ byteBlocks b k = eqb b 1 || has b k
 
 unfoldable pub ruleByte : Sizes → ℕ → (ℕ → ℕ) → ℕ
 ruleByte S o heard = byteOf λ k. rule S (heading o k) λ j. byteBlocks (heard j) k
+
+-- "A word is 0, 2, 4 or 6."
+unfoldable pub isWord : ℕ → Bool
+isWord w = leb w 6 && eqb (w % 2) 0
