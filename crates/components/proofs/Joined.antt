@@ -1,0 +1,165 @@
+-- The computed components are the ones that 01 describes: `joined` computes `Joined`. A round that adds no node is the last, and there are no more
+-- nodes to add than rounds. Assumes nothing.
+use mathlib.Core.Path.{_≡_, refl, sym, ap, _∙_, subst}
+use mathlib.Core.Logic.{_↔_, _⊎_, inl, inr}
+use mathlib.Core.Bool.{Bool, true, false, not, _&&_, _||_}
+use mathlib.Core.List.{List, [], _∷_}
+use Prim.Native.Nat.{ℕ, zero, suc, _+_, _-_, _≤_, _<_}
+use native.Mathlib.Omega.{arith}
+use native.Mathlib.Nat.{add-comm}
+use lib.Dec.{T, T-not, eqb, leb, nleb→lt, leb→le, eqb-refl}
+use lib.ListN.{length, getD, List·getD-eq-default}
+use Rattle.mesh.specs.Tools.{between, table}
+use Rattle.mesh.specs.Mesh.{Axis, X, Y, Z, every, placeOf}
+use Rattle.mesh.proofs.Tests.{T-or, T-eq, T-no, T-lt, tried}
+use Rattle.mesh.specs.declared.Sizes.{Sizes}
+use Rattle.mesh.specs.declared.Place.{Place}
+use Rattle.components.specs.Lists.{anyOf, isIn, keep}
+use Rattle.components.specs.Touch.{unsafe, unsafeNodes, apart, touch, touching, Joined, itself, further, near, grown, component, joined}
+use Rattle.components.proofs.Lists.{T-any-of, T-keep, keep-few, keep-le, keep-tight, keep-ext, T-table, Ascending, keep-ascends, table-ascends}
+
+-- ---- touching goes both ways
+
+apart-sym : (p q : Place) (a : Axis) → apart p q a ≡ apart q p a
+apart-sym p q X = omega arith
+apart-sym p q Y = omega arith
+apart-sym p q Z = omega arith
+
+pub touch-sym : (p q : Place) → touch p q ≡ touch q p
+unfolding touch
+touch-sym p q = rw (apart-sym p q X, apart-sym p q Y, apart-sym p q Z)
+
+module _ (S : Sizes) (marks : List ℕ) where
+  pub joined-trans : {a b c : ℕ} → Joined S marks a b → Joined S marks b c → Joined S marks a c
+  joined-trans j (itself u) = j
+  joined-trans j (further k t u) = further (joined-trans j k) t u
+
+  start-unsafe : {a b : ℕ} → Joined S marks a b → T (unsafe marks a)
+  start-unsafe (itself u) = u
+  start-unsafe (further j t u) = start-unsafe j
+
+  end-unsafe : {a b : ℕ} → Joined S marks a b → T (unsafe marks b)
+  end-unsafe (itself u) = u
+  end-unsafe (further j t u) = u
+
+  pub joined-sym : {a b : ℕ} → Joined S marks a b → Joined S marks b a
+  joined-sym (itself u) = itself u
+  joined-sym {a} (further {b} {c} j t u) = joined-trans (further (itself u) (rw (touch-sym (placeOf S c) (placeOf S b)) t) (end-unsafe j)) (joined-sym j)
+
+-- ---- the list of unsafe nodes
+
+pub T-unsafe : (marks : List ℕ) (k : ℕ) → T (isIn k (unsafeNodes marks)) ↔ T (unsafe marks k)
+unfolding unsafeNodes
+T-unsafe marks k = (
+  λ i. T-keep (unsafe marks) (table (λ j. j) (length marks)) k .0 i .1,
+  λ u. T-keep (unsafe marks) (table (λ j. j) (length marks)) k .1 (T-table (λ j. j) (length marks) k .1 (k, within u, refl), u),
+)
+  where
+    within : T (unsafe marks k) → k < length marks
+    within u = elim (tried (leb (length marks) k)) [
+      | inl h ↦ absurd (subst (λ (b : ℕ). T (not (eqb b 0))) (List·getD-eq-default marks 0 (leb→le (length marks) k h)) u)
+      | inr h ↦ nleb→lt (length marks) k h
+    ]
+
+pub unsafe-ascends : (marks : List ℕ) → Ascending (unsafeNodes marks)
+unfolding unsafeNodes
+unsafe-ascends marks = keep-ascends (unsafe marks) (table (λ j. j) (length marks)) (table-ascends (λ j. j) (length marks) (λ i j l. l))
+
+-- ---- the rounds
+
+module _ (S : Sizes) (nodes : List ℕ) (a : ℕ) where
+  -- what a round asks of a node
+  abbrev asks : ℕ → ℕ → Bool
+  asks zero = eqb a
+  asks (suc n) = near S (grown S nodes a n)
+
+  kept : (n : ℕ) → grown S nodes a n ≡ keep (asks n) nodes
+  unfolding grown
+  kept zero = refl
+  kept (suc n) = refl
+
+  -- a round asks no more than the one before
+  wider : (n k : ℕ) → T (isIn k nodes) → T (asks n k) → T (asks (suc n) k)
+  wider n k i t =
+      let here : T (isIn k (grown S nodes a n)) = rw (kept n) (T-keep (asks n) nodes k .1 (i, t)) in
+      T-any-of (grown S nodes a n) (λ j. eqb j k || touching S j k) .1 (k, here, T-or (eqb k k) (touching S k k) .1 (inl (eqb-refl k)))
+
+  again : (n : ℕ) → grown S nodes a (suc n) ≡ grown S nodes a n → grown S nodes a (suc (suc n)) ≡ grown S nodes a (suc n)
+  again n e = kept (suc (suc n)) ∙ ap (λ (l : List ℕ). keep (near S l) nodes) e ∙ sym (kept (suc n))
+
+  -- a round that adds no node is the last
+  stop : (n : ℕ) → length (grown S nodes a (suc n)) ≤ length (grown S nodes a n) → grown S nodes a (suc n) ≡ grown S nodes a n
+  stop n l =
+      let fewer : length (keep (asks (suc n)) nodes) ≤ length (keep (asks n) nodes) = omega (arith, ap length (kept n), ap length (kept (suc n))) in
+      kept (suc n) ∙ keep-tight (asks n) (asks (suc n)) nodes (wider n) fewer ∙ sym (kept n)
+
+  -- after n rounds either that was the last, or at least n nodes are in
+  ladder : (n : ℕ) → (grown S nodes a (suc n) ≡ grown S nodes a n) ⊎ (n ≤ length (grown S nodes a n))
+  ladder zero = inr (omega arith)
+  ladder (suc n) = elim (ladder n) [
+    | inl e ↦ inl (again n e)
+    | inr h ↦ elim (tried (leb (length (grown S nodes a (suc n))) (length (grown S nodes a n)))) [
+      | inl t ↦ inl (again n (stop n (leb→le (length (grown S nodes a (suc n))) (length (grown S nodes a n)) t)))
+      | inr t ↦ inr (omega (arith, nleb→lt (length (grown S nodes a (suc n))) (length (grown S nodes a n)) t))
+    ]
+  ]
+
+  settled : grown S nodes a (suc (length nodes)) ≡ component S nodes a
+  unfolding component
+  settled = elim (ladder (length nodes)) [
+    | inl e ↦ e
+    | inr h ↦ stop (length nodes) (omega (arith, ap length (kept (suc (length nodes))), keep-few (asks (suc (length nodes))) nodes))
+  ]
+
+  -- the component by its last round
+  last : component S nodes a ≡ keep (asks (length nodes)) nodes
+  unfolding component
+  last = kept (length nodes)
+
+  T-last : (k : ℕ) → T (isIn k (component S nodes a)) ↔ (T (isIn k nodes) × T (asks (length nodes) k))
+  T-last k = rw last (T-keep (asks (length nodes)) nodes k)
+
+  pub component-ascends : Ascending nodes → Ascending (component S nodes a)
+  component-ascends h = rw last (keep-ascends (asks (length nodes)) nodes h)
+
+  pub component-kept : component S nodes a ≡ keep (λ k. isIn k (component S nodes a)) nodes
+  component-kept = last ∙ keep-ext (asks (length nodes)) (λ k. isIn k (component S nodes a)) nodes λ k i. (λ t. T-last k .1 (i, t), λ h. T-last k .0 h .1)
+
+  -- the component has its own node, if that is one of the nodes, and is closed under touching
+  own : T (isIn a nodes) → (n : ℕ) → T (asks n a)
+  own i zero = eqb-refl a
+  own i (suc n) = wider n a i (own i n)
+
+  closed : (j k : ℕ) → T (isIn j (component S nodes a)) → T (touching S j k) → T (isIn k nodes) → T (isIn k (component S nodes a))
+  unfolding component
+  closed j k i t m =
+      let n = length nodes in
+      let hit : T (asks (suc n) k) = T-any-of (grown S nodes a n) (λ j. eqb j k || touching S j k) .1 (j, i, T-or (eqb j k) (touching S j k) .1 (inr t)) in
+      let e : keep (asks (suc n)) nodes ≡ component S nodes a = sym (kept (suc n)) ∙ settled in
+      rw e at (T-keep (asks (suc n)) nodes k .1 (m, hit))
+
+-- ---- `joined` computes `Joined`
+
+module _ (S : Sizes) (marks : List ℕ) where
+  sound : (a n b : ℕ) → T (isIn b (grown S (unsafeNodes marks) a n)) → Joined S marks a b
+  unfolding grown
+  sound a zero b i =
+      let (m, t) = T-keep (eqb a) (unsafeNodes marks) b .0 i in
+      subst (Joined S marks a) (T-eq a b .0 t) (itself (T-unsafe marks a .0 (rw (T-eq a b .0 t) m)))
+  sound a (suc n) b i =
+      let (m, t) = T-keep (near S (grown S (unsafeNodes marks) a n)) (unsafeNodes marks) b .0 i in
+      let (j, h, x) = T-any-of (grown S (unsafeNodes marks) a n) (λ j. eqb j b || touching S j b) .0 t in
+      elim (T-or (eqb j b) (touching S j b) .0 x) [
+        | inl e ↦ subst (Joined S marks a) (T-eq j b .0 e) (sound a n j h)
+        | inr y ↦ further (sound a n j h) y (T-unsafe marks b .0 m)
+      ]
+
+  complete : {a b : ℕ} → Joined S marks a b → T (isIn b (component S (unsafeNodes marks) a))
+  complete {a} (itself u) =
+      let i = T-unsafe marks a .1 u in
+      T-last S (unsafeNodes marks) a a .1 (i, own S (unsafeNodes marks) a i (length (unsafeNodes marks)))
+  complete {a} (further {b} {c} j t u) = closed S (unsafeNodes marks) a b c (complete j) t (T-unsafe marks c .1 u)
+
+  pub T-joined : (a b : ℕ) → T (joined S marks a b) ↔ Joined S marks a b
+  unfolding joined component
+  T-joined a b = (sound a (length (unsafeNodes marks)) b, complete)

@@ -1,0 +1,4 @@
+pub mod Lists
+pub mod Touch
+pub mod Components
+pub mod Entry

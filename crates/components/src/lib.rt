@@ -1,0 +1,13 @@
+// The components of a map: their records. Its specs/ have the definitions and the call's equations.
+
+// A component: how many nodes it has, and the least and the greatest coordinate on each axis.
+#[repr(C)]
+pub struct Component {
+    pub count: u16,
+    pub x0: u8,
+    pub y0: u8,
+    pub z0: u8,
+    pub x1: u8,
+    pub y1: u8,
+    pub z1: u8,
+}
