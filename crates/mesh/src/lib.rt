@@ -1,5 +1,7 @@
 // The mesh: sizes, places, steps, and cells with their check. Its specs/ have the mark rules too.
 
+pub mod numbering;
+
 pub struct Sizes {
     pub w: usize,
     pub h: usize,
