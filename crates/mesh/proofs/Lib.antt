@@ -2,3 +2,4 @@ pub mod Tests
 pub mod Tables
 pub mod Numbers
 pub mod Steps
+pub mod Whole
