@@ -3,3 +3,4 @@ pub mod Tables
 pub mod Numbers
 pub mod Steps
 pub mod Whole
+pub mod Answers

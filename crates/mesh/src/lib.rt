@@ -1,5 +1,6 @@
 // The mesh: sizes, places, steps, and cells with their check. Its specs/ have the mark rules too.
 
+pub mod cells;
 pub mod numbering;
 pub mod stepping;
 

@@ -22,10 +22,6 @@ use Rattle.mesh.proofs.Tests.{T-all, T-lt}
 use Rattle.mesh.proofs.Whole.{back}
 use Rattle.mesh.proofs.Place.step.Statement.{statement}
 use Rattle.mesh.proofs.Place.step.Tie as tie
-use Rattle.mesh.proofs.Place.step.Reads as reads
-use Rattle.mesh.proofs.Place.step.Lts as lts
-use Rattle.mesh.proofs.stepping.shift.Reads as shift-reads
-use Rattle.mesh.proofs.stepping.unit_step.Reads as unit-step-reads
 
 -- every entry of the table is small, computed once over all of it
 abbrev low : ℕ → ℕ → Bool
@@ -55,7 +51,7 @@ next-is : (S : Sizes) (p : Place) (j : ℕ) → j < 6 →
 unfolding next
 next-is S p j h = rw (lt-ltb j 6 h)
 
-x-is : (c : lts.After-shift (unit-step-reads.Asked, unit-step-reads.Learnt, shift-reads.Asked, shift-reads.Learnt) reads.Pre reads.Post) →
+x-is : (c : tie.After-shift) →
     let a = c .before .before .before .args in
     moved (a .self .x) (stepOf (a .direction) 0) (a .s .w) ≡ c .shift .result
 x-is c =
@@ -64,7 +60,7 @@ x-is c =
     leads (u .unit-step .result) (s .args .direction) 0 (u .unit-step .ensures) (s .pre .0) (omega arith)
     (s .args .self .x) (s .args .s .w) (c .shift .result) (c .shift .ensures)
 
-y-is : (c : lts.After-shift2 (unit-step-reads.Asked, unit-step-reads.Learnt, shift-reads.Asked, shift-reads.Learnt) reads.Pre reads.Post) →
+y-is : (c : tie.After-shift2) →
     let a = c .before .before .before .before .before .before .before .before .args in
     moved (a .self .y) (stepOf (a .direction) 1) (a .s .h) ≡ c .shift2 .result
 y-is c =
@@ -73,7 +69,7 @@ y-is c =
     leads (u .unit-step .result) (s .args .direction) 1 (u .unit-step .ensures) (s .pre .0) (omega arith)
     (s .args .self .y) (s .args .s .h) (c .shift2 .result) (c .shift2 .ensures)
 
-z-is : (c : lts.After-shift3 (unit-step-reads.Asked, unit-step-reads.Learnt, shift-reads.Asked, shift-reads.Learnt) reads.Pre reads.Post) →
+z-is : (c : tie.After-shift3) →
     let a = c .before .before .before .before .before .before .before .before .before .before .before .before .before .args in
     moved (a .self .z) (stepOf (a .direction) 2) (a .s .d) ≡ c .shift3 .result
 z-is c =

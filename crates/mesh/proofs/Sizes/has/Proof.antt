@@ -7,11 +7,9 @@ use borrow.Author.Tests.{lt-ltb, le-ltb}
 use Rattle.mesh.specs.Mesh.{inside}
 use Rattle.mesh.proofs.Sizes.has.Statement.{statement}
 use Rattle.mesh.proofs.Sizes.has.Tie as tie
-use Rattle.mesh.proofs.Sizes.has.Reads as reads
-use Rattle.mesh.proofs.Sizes.has.Lts as lts
 
 -- the first two tests together
-x-and-y : (c : lts.Joined1 reads.Pre reads.Post) →
+x-and-y : (c : tie.Joined1) →
     let a = c .before .before .before .args in c .if1 .if2 ≡ ltb (a .p .x) (a .self .w) && ltb (a .p .y) (a .self .h)
 x-and-y c = ⊎-elim (λ t. rw (lt-ltb _ _ (t .0 .taken)) (t .3)) (λ f. rw (le-ltb _ _ (f .0 .left)) (f .1 ∙ le-ltb _ _ (f .0 .left))) (c .if1 .came)
 

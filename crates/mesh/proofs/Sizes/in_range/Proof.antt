@@ -7,9 +7,6 @@ use Rattle.mesh.specs.Tools.{between}
 use Rattle.mesh.specs.Mesh.{inRange}
 use Rattle.mesh.proofs.Sizes.in_range.Statement.{statement}
 use Rattle.mesh.proofs.Sizes.in_range.Tie as tie
-use Rattle.mesh.proofs.Sizes.in_range.Reads as reads
-use Rattle.mesh.proofs.Sizes.in_range.Lts as lts
-use Rattle.mesh.proofs.numbering.between.Reads as between-reads
 
 between-requires : tie.Need-between-requires
 between-requires c κs = search needs
@@ -21,7 +18,7 @@ between-requires-3 : tie.Need-between-requires-3
 between-requires-3 c κs = search needs
 
 -- the first two tests together
-w-and-h : (c : lts.Joined1 (between-reads.Asked, between-reads.Learnt) reads.Pre reads.Post) →
+w-and-h : (c : tie.Joined1) →
     let s = c .before .before .args .self in c .if1 .if2 ≡ between 2 16 (s .w) && between 2 16 (s .h)
 w-and-h c =
     let e = sym (c .before .between .ensures) in

@@ -6,13 +6,11 @@ use native.Mathlib.Omega.{arith}
 use Rattle.mesh.proofs.Numbers.{digit-lt, nodes-le, number-lt}
 use Rattle.mesh.proofs.Sizes.number.Statement.{statement}
 use Rattle.mesh.proofs.Sizes.number.Tie as tie
-use Rattle.mesh.proofs.Sizes.number.Reads as reads
-use Rattle.mesh.proofs.Sizes.number.Lts as lts
 
-row : (c : lts.Start reads.Pre reads.Post) → c .args .p .y + c .args .self .h * c .args .p .z < 256
+row : (c : tie.Start) → c .args .p .y + c .args .self .h * c .args .p .z < 256
 row c = let r = c .pre .0 in omega (arith, digit-lt (c .pre .1 .y-in) (c .pre .1 .z-in), mul-le-mul (r .h-hi) (r .d-hi))
 
-low : (c : lts.Start reads.Pre reads.Post) → c .args .p .x + c .args .self .w * (c .args .p .y + c .args .self .h * c .args .p .z) < 4096
+low : (c : tie.Start) → c .args .p .x + c .args .self .w * (c .args .p .y + c .args .self .h * c .args .p .z) < 4096
 low c = omega (arith, number-lt (c .args .self) (c .args .p) (c .pre .1), nodes-le (c .args .self) (c .pre .0))
 
 mul-result : tie.Need-mul-result

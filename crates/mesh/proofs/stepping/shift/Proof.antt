@@ -8,11 +8,9 @@ use mir.Val.{toZ, ofZ}
 use Rattle.mesh.proofs.Whole.{small, mag-sum, sum-is, sum-back, below-zero, not-below, fits-u}
 use Rattle.mesh.proofs.stepping.shift.Statement.{statement}
 use Rattle.mesh.proofs.stepping.shift.Tie as tie
-use Rattle.mesh.proofs.stepping.shift.Reads as reads
-use Rattle.mesh.proofs.stepping.shift.Lts as lts
 
 -- the sum, as the tests and the cast read it
-summed : (c : lts.Start reads.Pre reads.Post) →
+summed : (c : tie.Start) →
     let a = c .args in toZ w32 (ofZ w32 (toZ w32 (a .c) +ℤ toZ w32 (ofZ w32 (a .s)))) ≡ pos (a .c) +ℤ a .s
 summed c = sum-back (c .args .c) (c .args .s) (c .pre .0) (c .pre .1)
 
