@@ -1,6 +1,7 @@
 // The mesh: sizes, places, steps, and cells with their check. Its specs/ have the mark rules too.
 
 pub mod cells;
+pub mod entries;
 pub mod numbering;
 pub mod stepping;
 
