@@ -8,3 +8,5 @@ pub mod Stuck
 pub mod Marks
 pub mod Bytes
 pub mod ByteRule
+pub mod Whole
+pub mod Answers
