@@ -9,14 +9,14 @@ use lib.Dec.{T}
 use Rattle.mesh.specs.Tools.{any}
 use Rattle.mesh.specs.Mesh.{number, Inside}
 use Rattle.mesh.specs.Steps.{next}
-use Rattle.mesh.specs.Cells.{Map, linked}
-use Rattle.mesh.proofs.Tests.{T-and, T-or, T-any}
+use Rattle.mesh.specs.Cells.{Map, cellAt, mayEnd, linked}
+use Rattle.mesh.proofs.Tests.{T-and, T-or, T-any, bool-ext}
 use Rattle.mesh.proofs.Steps.{dir-led, next-in}
 use Rattle.mesh.specs.declared.Place.{Place}
 use Rattle.mesh.specs.declared.Next.{Next}
 use Rattle.mesh.specs.declared.Next.the-variants.{At, Edge}
 use Rattle.routes.specs.Differences.{preferred, hops, same}
-use Rattle.routes.specs.Paths.{mayEnter, mayHop, Leads, stay, hop, beginsBy, begins, leadsWithin, leads}
+use Rattle.routes.specs.Paths.{mayEnter, mayHop, Leads, stay, hop, Path, beginsBy, begins, leadsWithin, leads}
 use Rattle.routes.proofs.Differences.{same-iff, hops-zero, preferred-lowers}
 
 -- what a hop asks
@@ -77,3 +77,29 @@ module _ (m : Map) (e : Place) where
   pub leads-iff : (p q : Place) → Inside (m .sizes) p → T (leads m e p q) ↔ ((l : List ℕ) × Leads m e p q l)
   unfolding leads
   leads-iff p q i = (found (hops p e) p q i (omega arith), λ d. finds (d .1) (hops p e) i (omega arith))
+
+  -- the test, one hop at a time: what a search that works backwards from the end computes
+  pub leads-is : (p q : Place) → Inside (m .sizes) p → leads m e p q ≡ same p q || any 6 (begins m e (λ r. leads m e r q) p)
+  leads-is p q i = bool-ext (leads m e p q) (same p q || any 6 (begins m e (λ r. leads m e r q) p))
+      (λ t. let (l, L) = leads-iff p q i .0 t in there L)
+      (λ t. leads-iff p q i .1 (elim (T-or (same p q) (any 6 (begins m e (λ r. leads m e r q) p)) .0 t) [
+        | inl s ↦ (_, stay (same-iff p q .0 s))
+        | inr a ↦
+            let (j, lt, b) = T-any 6 (begins m e (λ r. leads m e r q) p) .0 a in
+            let (r, h, y, t′) = begins-read (λ r. leads m e r q) p j .0 b in
+            let (l, L) = leads-iff r q (next-in (m .sizes) p r i j h) .0 t′ in
+            (_, hop {l = l} j h y L)
+      ]))
+    where
+      there : {l : List ℕ} → Leads m e p q l → T (same p q || any 6 (begins m e (λ r. leads m e r q) p))
+      there (stay f) = T-or (same p q) (any 6 (begins m e (λ r. leads m e r q) p)) .1 (inl (same-iff p q .1 f))
+      there (hop {r = r} {l = l} j h y L) = T-or (same p q) (any 6 (begins m e (λ r. leads m e r q) p)) .1 (inr (T-any 6 (begins m e (λ r. leads m e r q) p) .1
+          (j, dir-led (m .sizes) p r j h, begins-read (λ r. leads m e r q) p j .1 (r, h, y, leads-iff r q (next-in (m .sizes) p r i j h) .1 (l, L)))))
+
+-- a path: both ends may end one, and the test finds it
+pub path-iff : (m : Map) (s e : Place) → Inside (m .sizes) s
+    → ((l : List ℕ) × Path m s e l) ↔ (T (mayEnd (cellAt m s)) × T (mayEnd (cellAt m e)) × T (leads m e s e))
+path-iff m s e i = (
+  λ w. (w .1 .start-may, w .1 .end-may, leads-iff m e s e i .1 (w .0, w .1 .leading)),
+  λ t. let (l, L) = leads-iff m e s e i .0 (t .2) in (l, record { start-may = t .0; end-may = t .1; leading = L }),
+)

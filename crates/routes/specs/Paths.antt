@@ -28,6 +28,12 @@ pub data Leads (m : Map) (e : Place) : Place → Place → List ℕ → Type 0 w
   hop : {p r q : Place} {l : List ℕ} (j : ℕ) → next (m .sizes) p j ≡ At r → T (mayHop m e p j r)
       → Leads m e r q l → Leads m e p q (number (m .sizes) p ∷ l)
 
+-- A walk from p to q goes in any direction; e is where it means to end. It is a path to e if its hops are the Manhattan distance (proofs/Walks).
+pub data Walk (m : Map) (e : Place) : Place → Place → List ℕ → Type 0 where
+  stands : {p q : Place} → p ≡ q → Walk m e p q (number (m .sizes) p ∷ [])
+  goes : {p r q : Place} {l : List ℕ} (j : ℕ) → next (m .sizes) p j ≡ At r → T (linked m p j) → T (mayEnter m e r)
+      → Walk m e r q l → Walk m e p q (number (m .sizes) p ∷ l)
+
 pub record Path (m : Map) (s e : Place) (l : List ℕ) : Type 0 where
   pub start-may : T (mayEnd (cellAt m s))
   pub end-may : T (mayEnd (cellAt m e))
