@@ -1,28 +1,27 @@
 -- The offered set: bit j is set exactly if a path to the end begins in direction j. The route written: it is a path, of hops + 1 nodes, and
 -- takes the lowest-numbered offered direction at each node. Assumes nothing.
-use mathlib.Core.Path.{_≡_, refl, sym, ap, _∙_, subst}
-use mathlib.Core.Logic.{_↔_, _⊎_, inl, inr}
-use mathlib.Core.Bool.{Bool, true, false, not, _||_}
-use mathlib.Core.List.{List, [], _∷_}
+use mathlib.Core.Path.{_≡_, refl, sym, ap, subst}
+use mathlib.Core.Logic.{_↔_}
+use mathlib.Core.Bool.{Bool, true, false}
+use mathlib.Core.List.{List, _∷_}
 use Prim.Native.Nat.{ℕ, zero, suc, _+_, _*_, _/_, _%_, _^_, _<_, _≤_}
 use native.Mathlib.Omega.{arith}
 use lib.ListN.{length}
 use lib.Dec.{T, ltb}
 use borrow.Author.Tests.{ltb-true, ltb-false}
-use Rattle.mesh.specs.Tools.{bit, any, sum}
+use Rattle.mesh.specs.Tools.{bit, sum}
 use Rattle.mesh.specs.Mesh.{number, Inside}
 use Rattle.mesh.specs.Steps.{next}
 use Rattle.mesh.specs.Cells.{Map}
-use Rattle.mesh.proofs.Tests.{T-or, T-any, bool-ext, holds-true}
+use Rattle.mesh.proofs.Tests.{bool-ext}
 use Rattle.mesh.proofs.Tables.{sum-zero}
 use Rattle.mesh.proofs.Steps.{dir-led, next-in}
 use Rattle.mesh.specs.declared.Place.{Place}
-use Rattle.mesh.specs.declared.Next.{Next}
-use Rattle.mesh.specs.declared.Next.the-variants.{At, Edge}
-use Rattle.routes.specs.Differences.{hops, same}
-use Rattle.routes.specs.Paths.{mayHop, Leads, stay, hop, begins, leads}
+use Rattle.mesh.specs.declared.Next.the-variants.{At}
+use Rattle.routes.specs.Differences.{hops}
+use Rattle.routes.specs.Paths.{mayHop, Leads, stay, hop, leads}
 use Rattle.routes.specs.Offered.{offers, offered, lowest, onward, routeWithin, route, Lowest, ends, takes}
-use Rattle.routes.proofs.Differences.{same-iff, hops-zero, end-prefers-none}
+use Rattle.routes.proofs.Differences.{hops-zero, end-prefers-none}
 use Rattle.routes.proofs.Walks.{path-walk}
 use Rattle.routes.proofs.Paths.{mayHop-iff, begins-read, hop-lowers, leads-iff}
 
@@ -47,7 +46,7 @@ six-bit t (suc (suc (suc (suc zero)))) h = omega (arith, bit-le (t 0), bit-le (t
 six-bit t (suc (suc (suc (suc (suc zero))))) h = omega (arith, bit-le (t 0), bit-le (t 1), bit-le (t 2), bit-le (t 3), bit-le (t 4), bit-le (t 5))
 six-bit t (suc (suc (suc (suc (suc (suc j)))))) h = absurd (omega arith)
 
-bit-one : (b : Bool) → (bit b ≡ 1) ↔ T b
+pub bit-one : (b : Bool) → (bit b ≡ 1) ↔ T b
 bit-one true = (λ e. tt, λ t. refl)
 bit-one false = (λ e. absurd (omega arith), λ t. absurd t)
 
@@ -83,7 +82,8 @@ module _ (m : Map) (e : Place) where
   -- "It is 0 at the end itself."
   pub offered-end : offered m e e ≡ 0
   unfolding offered
-  offered-end = sum-zero 6 (λ j. bit (offers m e e j) * 2 ^ j) λ j h. rw (bool-ext (offers m e e j) false (end-offers-none j) (λ t. absurd t)) (omega arith)
+  offered-end = sum-zero 6 (λ j. bit (offers m e e j) * 2 ^ j) λ j h.
+      rw (bool-ext (offers m e e j) false (end-offers-none j) (λ t. absurd t)) (omega arith)
 
 -- ---- the lowest-numbered
 
@@ -133,11 +133,11 @@ module _ (m : Map) (e : Place) where
 
   -- where a path leads on from a node that is not the end, one begins in some direction
   offers-some : (p : Place) → Inside (m .sizes) p → (p ≡ e → ⊥) → T (leads m e p e) → (j : ℕ) × (j < 6) × T (offers m e p j)
-  offers-some p i ne t = let (l, L) = leads-iff m e p e i .0 t in split L refl
+  offers-some p i ne t = split (leads-iff m e p e i .0 t .1)
     where
-      split : {q : Place} {l : List ℕ} → Leads m e p q l → q ≡ e → (j : ℕ) × (j < 6) × T (offers m e p j)
-      split (stay f) g = absurd (ne (f ∙ g))
-      split (hop {r = r} {l = l} j h y L) g = (j, dir-led (m .sizes) p r j h, offers-iff m e p j i .1 (r, l, h, y, subst (λ (q : Place). Leads m e r q l) g L))
+      split : {l : List ℕ} → Leads m e p e l → (j : ℕ) × (j < 6) × T (offers m e p j)
+      split (stay f) = absurd (ne f)
+      split (hop {r = r} {l = l} j h y L) = (j, dir-led (m .sizes) p r j h, offers-iff m e p j i .1 (r, l, h, y, L))
 
   routed : (n : ℕ) (p : Place) → Inside (m .sizes) p → hops p e ≡ n → T (leads m e p e) → Lowest m e p (routeWithin n m e p)
   unfolding routeWithin

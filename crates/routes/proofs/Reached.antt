@@ -1,25 +1,25 @@
 -- What is reached, the witness of a refusal: the start is; the end is exactly if a path exists; a preferred step from a reached node leads
 -- to a reached node or to one that may not be used; and any set of nodes so closed that lacks the end refuses every path. Assumes nothing.
-use mathlib.Core.Path.{_≡_, refl, sym, ap, _∙_, subst}
+use mathlib.Core.Path.{_≡_, refl, subst}
 use mathlib.Core.Logic.{_↔_, _⊎_, inl, inr}
-use mathlib.Core.Bool.{Bool, true, false, not}
-use mathlib.Core.List.{List, [], _∷_}
-use Prim.Native.Nat.{ℕ, zero, suc, _<_}
-use native.Mathlib.Omega.{arith}
+use mathlib.Core.Bool.{Bool}
+use mathlib.Core.List.{List}
+use Prim.Native.Nat.{ℕ, _<_}
 use lib.ListN.{length, getD}
 use lib.Dec.{T}
 use Rattle.mesh.specs.Tools.{bit}
-use Rattle.mesh.specs.Mesh.{Inside, nodes, number, placeOf}
+use Rattle.mesh.specs.Mesh.{Inside, nodes, number}
 use Rattle.mesh.specs.Steps.{next}
-use Rattle.mesh.specs.Cells.{Map}
+use Rattle.mesh.specs.Cells.{Map, cellAt, mayEnd}
 use Rattle.mesh.proofs.Tables.{length-table, getD-table}
-use Rattle.mesh.proofs.Numbers.{place-of}
+use Rattle.mesh.proofs.Numbers.{number-lt, place-of}
 use Rattle.mesh.proofs.Steps.{next-in}
 use Rattle.mesh.specs.declared.Place.{Place}
 use Rattle.mesh.specs.declared.Next.the-variants.{At}
 use Rattle.routes.specs.Paths.{mayHop, Leads, stay, hop, Path, leads}
 use Rattle.routes.specs.Offered.{reachedAt, reached}
-use Rattle.routes.proofs.Paths.{leads-iff}
+use Rattle.routes.proofs.Paths.{leads-iff, path-iff}
+use Rattle.routes.proofs.Offered.{bit-one}
 
 module _ (m : Map) (e : Place) where
   one-more : {s p : Place} {l : List ℕ} → Leads m e s p l → (r : Place) (j : ℕ) → next (m .sizes) p j ≡ At r → T (mayHop m e p j r)
@@ -54,15 +54,16 @@ module _ (m : Map) (e : Place) where
       λ d. elim d [ inl f ↦ leads-iff m e s r i .1 (_, stay f) | inr w ↦ let (p, j, t, h, y) = w in reached-on p r j t h y ],
     )
 
--- whoever follows one step at a time needs nothing else: a set of nodes with the start and without the end, closed under hops, refuses every path
-pub closed-refuses : (m : Map) (s e : Place) (A : Place → Bool) → T (A s)
-    → ((p r : Place) (j : ℕ) → T (A p) → next (m .sizes) p j ≡ At r → T (mayHop m e p j r) → T (A r))
+-- Whoever follows one step at a time needs nothing else: a set of nodes that has the start and not the end, closed under hops, refuses
+-- every path.
+pub closed-refuses : (m : Map) (s e : Place) → Inside (m .sizes) s → (A : Place → Bool) → T (A s)
+    → ((p r : Place) (j : ℕ) → Inside (m .sizes) p → T (A p) → next (m .sizes) p j ≡ At r → T (mayHop m e p j r) → T (A r))
     → (T (A e) → ⊥) → (l : List ℕ) → Path m s e l → ⊥
-closed-refuses m s e A a closed out l w = out (follow (w .leading) a)
+closed-refuses m s e i A a closed out l w = out (follow (w .leading) i a)
   where
-    follow : {p q : Place} {l : List ℕ} → Leads m e p q l → T (A p) → T (A q)
-    follow (stay f) t = subst (λ (q : Place). T (A q)) f t
-    follow {p} (hop {r = r} j h y L) t = follow L (closed p r j t h y)
+    follow : {p q : Place} {l : List ℕ} → Leads m e p q l → Inside (m .sizes) p → T (A p) → T (A q)
+    follow (stay f) i t = subst (λ (q : Place). T (A q)) f t
+    follow {p} (hop {r = r} j h y L) i t = follow L (next-in (m .sizes) p r i j h) (closed p r j i t h y)
 
 -- ---- the bytes
 
@@ -75,6 +76,14 @@ module _ (m : Map) (s e : Place) where
   unfolding reached
   reached-byte k h = getD-table (λ k. bit (reachedAt m s e k)) (nodes (m .sizes)) k 0 h
 
-  -- the byte of a place
-  pub reached-at : (p : Place) → Inside (m .sizes) p → reachedAt m s e (number (m .sizes) p) ≡ leads m e s p
-  reached-at p i = ap (leads m e s) (place-of (m .sizes) p i)
+  -- the byte of a place is 1 where preferred steps lead from the start to it
+  pub byte-iff : (p : Place) → Inside (m .sizes) p → (getD (reached m s e) (number (m .sizes) p) 0 ≡ 1) ↔ T (leads m e s p)
+  byte-iff p i = rw (reached-byte (number (m .sizes) p) (number-lt (m .sizes) p i), place-of (m .sizes) p i) (bit-one (leads m e s p))
+
+  -- "the end's byte is 1 ⇔ the route is granted"
+  pub end-byte : Inside (m .sizes) s → Inside (m .sizes) e → T (mayEnd (cellAt m s)) → T (mayEnd (cellAt m e))
+      → (getD (reached m s e) (number (m .sizes) e) 0 ≡ 1) ↔ ((l : List ℕ) × Path m s e l)
+  end-byte i k a b = (
+    λ h. path-iff m s e i .1 (a, b, byte-iff e k .0 h),
+    λ w. byte-iff e k .1 (path-iff m s e i .0 w .2),
+  )

@@ -1,27 +1,28 @@
 -- What a verdict says: granted exactly if a path exists, with its hops and the offered set; refused by 10 exactly if both ends may end a
--- path and there is none. Assumes nothing.
-use mathlib.Core.Path.{_≡_, refl, sym, ap, _∙_, subst}
-use mathlib.Core.Logic.{_↔_}
+-- path and there is none, and then every walk is longer than the Manhattan distance. Assumes nothing.
+use mathlib.Core.Path.{_≡_, refl, sym, _∙_}
+use mathlib.Core.Logic.{_↔_, inl, inr}
 use mathlib.Core.Bool.{Bool, true, false}
 use mathlib.Core.List.{List}
-use Prim.Native.Nat.{ℕ, _<_}
+use Prim.Native.Nat.{ℕ, _+_, _<_}
+use lib.ListN.{length}
+use native.Mathlib.Nat.{eq-or-lt-of-le}
 use native.Mathlib.Omega.{arith}
-use lib.Dec.{T, ltb}
+use lib.Dec.{T}
 use borrow.Author.Tests.{lt-ltb}
 use Rattle.mesh.specs.Mesh.{nodes, placeOf}
 use Rattle.mesh.specs.Cells.{Map, mapOf, cellAt, mayEnd}
-use Rattle.mesh.specs.Answers.{_andThen_, unless, checkMap, checkNode}
+use Rattle.mesh.specs.Answers.{_andThen_, unless, checkMap}
 use Rattle.mesh.proofs.Numbers.{place-in}
 use Rattle.mesh.specs.declared.Sizes.{Sizes}
-use Rattle.mesh.specs.declared.Place.{Place}
-use Rattle.mesh.specs.declared.Answer.{Answer}
-use Rattle.mesh.specs.declared.Answer.the-variants.{Done, Refused}
+use Rattle.mesh.specs.declared.Answer.the-variants.{Done}
 use Rattle.mesh.specs.declared.Refusal.the-variants.{FaultyEnd, NoPath}
 use Rattle.routes.specs.Differences.{hops}
-use Rattle.routes.specs.Paths.{Path, leads}
+use Rattle.routes.specs.Paths.{Path, Walk, leads}
 use Rattle.routes.specs.Offered.{offered}
-use Rattle.routes.specs.Entries.{judged, checkEnd, checkPath, checkEnds, verdictCheck, verdictAnswer}
+use Rattle.routes.specs.Entries.{judged, checkEnds, verdictCheck, verdictAnswer}
 use Rattle.routes.proofs.Paths.{path-iff}
+use Rattle.routes.proofs.Walks.{walk-le, path-walk}
 use Rattle.routes.specs.declared.Verdict.{Verdict}
 use Rattle.routes.specs.declared.Verdict.the-variants.{Granted, NotGranted}
 
@@ -70,3 +71,15 @@ module _ (S : Sizes) (cells : List ℕ) (s e : ℕ) (good : checkMap S cells ≡
         λ h. let (a, b, c) = j .0 (sym verdict-is ∙ h) in (a, b, λ l w. c (p .0 (l, w) .2)),
         λ t. let (a, b, c) = t in verdict-is ∙ j .1 (a, b, λ x. let (l, w) = p .1 (a, b, x) in c l w),
       )
+
+  -- so every walk through working neighbours is longer than the Manhattan distance
+  pub refused-walks : verdictAnswer S cells s e ≡ NotGranted NoPath
+      → (l : List ℕ) → Walk m (placeOf S e) (placeOf S s) (placeOf S e) l → hops (placeOf S s) (placeOf S e) + 1 < length l
+  refused-walks h l w =
+      let i = place-in S s start-in in
+      let k = walk-le m (placeOf S e) w i in
+      let (a, b, none) = refused-iff .0 h in
+      elim (eq-or-lt-of-le k) [
+        | inl d ↦ absurd (none l (record { start-may = a; end-may = b; leading = path-walk m (placeOf S e) (placeOf S s) l i .1 (w, sym d) }))
+        | inr d ↦ d
+      ]

@@ -1,20 +1,16 @@
 -- A path is exactly a walk through working neighbours whose hops are the Manhattan distance: each preferred step lowers the hops that are
 -- left by one, every other raises them by one, so a walk of that length has room for no other. Assumes nothing.
-use mathlib.Core.Path.{_≡_, refl, sym, ap, _∙_, subst}
-use mathlib.Core.Logic.{_↔_, _⊎_, inl, inr}
-use mathlib.Core.Bool.{Bool, true, false, not}
-use mathlib.Core.List.{List, [], _∷_}
-use Prim.Native.Nat.{ℕ, zero, suc, _+_, _<_, _≤_}
+use mathlib.Core.Path.{_≡_, refl}
+use mathlib.Core.Logic.{_↔_, inl, inr}
+use mathlib.Core.List.{List}
+use Prim.Native.Nat.{ℕ, _+_, _≤_}
 use native.Mathlib.Omega.{arith}
 use lib.ListN.{length}
-use lib.Dec.{T}
 use Rattle.mesh.specs.Mesh.{Inside}
-use Rattle.mesh.specs.Steps.{next}
 use Rattle.mesh.specs.Cells.{Map}
 use Rattle.mesh.proofs.Tests.{tried}
 use Rattle.mesh.proofs.Steps.{next-in}
 use Rattle.mesh.specs.declared.Place.{Place}
-use Rattle.mesh.specs.declared.Next.the-variants.{At}
 use Rattle.routes.specs.Differences.{preferred, hops}
 use Rattle.routes.specs.Paths.{Leads, stay, hop, Walk, stands, goes}
 use Rattle.routes.proofs.Differences.{hops-zero, preferred-lowers, other-raises}
@@ -34,27 +30,27 @@ module _ (m : Map) (e : Place) where
       omega arith
 
   -- no walk is shorter
-  pub walk-le : {p q : Place} {l : List ℕ} → Walk m e p q l → q ≡ e → Inside (m .sizes) p → hops p e + 1 ≤ length l
-  walk-le {p} {q} (stands f) g i = let z = hops-zero p e .1 (f ∙ g) in omega arith
-  walk-le {p} {q} (goes {r = r} j h k n w) g i =
-      let s = walk-le w g (next-in (m .sizes) p r i j h) in
+  pub walk-le : {p : Place} {l : List ℕ} → Walk m e p e l → Inside (m .sizes) p → hops p e + 1 ≤ length l
+  walk-le {p} (stands f) i = let z = hops-zero p e .1 f in omega arith
+  walk-le {p} (goes {r = r} j h k n w) i =
+      let s = walk-le w (next-in (m .sizes) p r i j h) in
       elim (tried (preferred p e j)) [
         | inl t ↦ omega (arith, preferred-lowers (m .sizes) p r e i j h t)
         | inr t ↦ omega (arith, other-raises (m .sizes) p r e i j h t)
       ]
 
-  straight : {p q : Place} {l : List ℕ} → Walk m e p q l → q ≡ e → Inside (m .sizes) p → length l ≡ hops p e + 1 → Leads m e p q l
-  straight (stands f) g i d = stay f
-  straight {p} {q} (goes {r = r} j h k n w) g i d =
+  straight : {p : Place} {l : List ℕ} → Walk m e p e l → Inside (m .sizes) p → length l ≡ hops p e + 1 → Leads m e p e l
+  straight (stands f) i d = stay f
+  straight {p} (goes {r = r} j h k n w) i d =
       let i′ = next-in (m .sizes) p r i j h in
-      let s = walk-le w g i′ in
+      let s = walk-le w i′ in
       elim (tried (preferred p e j)) [
-        | inl t ↦ hop j h (mayHop-iff m e p j r .1 (t, k, n)) (straight w g i′ (omega (arith, preferred-lowers (m .sizes) p r e i j h t)))
+        | inl t ↦ hop j h (mayHop-iff m e p j r .1 (t, k, n)) (straight w i′ (omega (arith, preferred-lowers (m .sizes) p r e i j h t)))
         | inr t ↦ absurd (omega (arith, other-raises (m .sizes) p r e i j h t))
       ]
 
   pub path-walk : (p : Place) (l : List ℕ) → Inside (m .sizes) p → Leads m e p e l ↔ (Walk m e p e l × (length l ≡ hops p e + 1))
   path-walk p l i = (
     λ L. (walked L, let z = hops-zero e e .1 refl in omega (arith, leads-length L i)),
-    λ w. straight (w .0) refl i (w .1),
+    λ w. straight (w .0) i (w .1),
   )
