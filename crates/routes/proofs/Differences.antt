@@ -2,23 +2,20 @@
 -- A preferred direction leads along an axis on which the end lies that way (`preferred-along`), and all else follows. Assumes nothing.
 use mathlib.Core.Path.{_≡_, refl, sym, ap, _∙_, subst}
 use mathlib.Core.Logic.{_↔_, _⊎_, inl, inr}
-use mathlib.Core.Bool.{Bool, true, false, cond, not, _||_, or-false}
-use mathlib.Core.List.{List, [], _∷_}
+use mathlib.Core.Bool.{Bool, true, false, not, _||_, or-false}
 use Prim.Native.Nat.{ℕ, zero, suc, _+_, _-_, _<_, _≤_}
 use native.Mathlib.Omega.{arith}
 use lib.IntN.{ℤ, pos, negsuc, natAbs, subℕ, _-ℤ_, +ℤ-idr}
-use lib.Dec.{T, ltb, leb, eqb, ltb→lt, lt→ltb, nltb→le}
+use lib.Dec.{T, ltb, eqb, ltb→lt, lt→ltb, nltb→le}
 use borrow.Author.Tests.{lt-ltb, le-ltb, ltb-true, ltb-false, ne-eqb, eq-eqb}
 use Rattle.mesh.specs.Mesh.{Axis, X, Y, Z, span, on, place, InRange, Inside}
 use Rattle.mesh.specs.Steps.{stepOf, next, along}
-use Rattle.mesh.proofs.Tests.{T-or, T-eq, T-every, T-lt, cond-true}
-use Rattle.mesh.proofs.Steps.{dir-of, dir-lt, dir-led, led, next-along, next-in, room, go, put, stepOn}
+use Rattle.mesh.proofs.Tests.{T-eq, T-every, cond-true}
+use Rattle.mesh.proofs.Steps.{dir-of, dir-lt, dir-led, led, next-along, room, go, put}
 use Rattle.mesh.specs.declared.Sizes.{Sizes}
 use Rattle.mesh.specs.declared.Place.{Place}
-use Rattle.mesh.specs.declared.Next.{Next}
 use Rattle.mesh.specs.declared.Next.the-variants.{At, Edge}
 use Rattle.routes.specs.Differences.{difference, size, wanted, isWay, prefers, preferred, hops, same}
-use Rattle.routes.specs.declared.Wanted.the-variants.{Way, Level}
 
 -- ---- one axis
 
@@ -273,6 +270,6 @@ lowers p e j = (λ t. let (a, down, k, l) = preferred-read p e j t in (a, there 
     back : (a : Axis) → natAbs (difference p e a -ℤ stepBy j a) < size p e a
         → (stepBy j a ≡ pos 0) ⊎ ((down : Bool) × (j ≡ along a down) × (stepBy j a ≡ unit down)) → T (preferred p e j)
     back a l (inl z) =
-        let f : natAbs (difference p e a -ℤ stepBy j a) ≡ size p e a = ap (λ (s : ℤ). natAbs (difference p e a -ℤ s)) z ∙ ap natAbs (+ℤ-idr (difference p e a)) in
-        absurd (omega arith)
+        let f : difference p e a -ℤ stepBy j a ≡ difference p e a = ap (λ (s : ℤ). difference p e a -ℤ s) z ∙ +ℤ-idr (difference p e a) in
+        absurd (omega (arith, ap natAbs f))
     back a l (inr (down, k, s)) = rw (k, preferred-along p e a down) (lowers-on down (on p a) (on e a) .1 (rw s at l))

@@ -1,28 +1,30 @@
 -- 01's law of useless nodes: "a useless node has no path to a working node that is not useless and lies ahead of it or level with it on
 -- every counted axis." Each hop of such a path goes ahead, onto a node that works and so is useless again; the end is not. Assumes nothing.
-use mathlib.Core.Path.{_≡_, refl, sym, ap, _∙_, subst}
-use mathlib.Core.Logic.{_↔_, _⊎_, inl, inr}
+use mathlib.Core.Path.{_≡_, refl, ap, _∙_, subst}
+use mathlib.Core.Logic.{_↔_, inl, inr}
 use mathlib.Core.Bool.{Bool, true, false, cond, not}
-use mathlib.Core.List.{List, [], _∷_}
-use Prim.Native.Nat.{ℕ, zero, suc, _+_, _-_, _<_, _≤_}
+use mathlib.Core.List.{List}
+use Prim.Native.Nat.{ℕ}
 use native.Mathlib.Omega.{arith}
-use lib.Dec.{T, ltb, leb, ltb→lt, leb→le, le→leb, T-not}
+use lib.Dec.{T, leb, ltb→lt, leb→le, le→leb, T-not}
 use Rattle.mesh.specs.Tools.{implies}
-use Rattle.mesh.specs.Mesh.{Axis, X, Y, Z, span, on, every, Inside}
+use Rattle.mesh.specs.Mesh.{Axis, X, Y, Z, span, on, Inside}
 use Rattle.mesh.specs.Steps.{next, along, ahead, runsDown}
 use Rattle.mesh.specs.Cells.{Map, cellAt, faultyCell, works, mayPass, linked, wall}
-use Rattle.mesh.specs.Marks.{counted, stuck}
-use Rattle.mesh.proofs.Tests.{T-every, T-implies, T-cond, tried, cond-true, cond-false}
+use Rattle.mesh.specs.Marks.{counted, useless, holds}
+use Rattle.mesh.proofs.Tests.{T-every, T-implies, tried, cond-false}
+use Rattle.mesh.proofs.Rule.{blocks-read}
+use Rattle.mesh.proofs.Marks.{useless-iff}
 use Rattle.mesh.proofs.Steps.{led, next-in, room, go, put}
 use Rattle.mesh.specs.declared.Sizes.{Sizes}
 use Rattle.mesh.specs.declared.Place.{Place}
 use Rattle.mesh.specs.declared.Next.the-variants.{At}
 use Rattle.routes.specs.Differences.{preferred, same, notBehind, aheadOrLevel}
-use Rattle.routes.specs.Paths.{mayEnter, mayHop, Leads, stay, hop, Path}
+use Rattle.routes.specs.Paths.{mayEnter, Leads, stay, hop, Path}
 use Rattle.routes.proofs.Differences.{lies, preferred-read, same-iff}
 use Rattle.routes.proofs.Paths.{mayHop-iff}
 
--- ---- what may be entered works, and does not block who enters it
+-- ---- what may be entered works, and does not block who enters it: all that the law asks of the named questions
 
 carries : (c : ℕ) → T (mayPass c) → T (not (faultyCell c))
 unfolding mayPass
@@ -65,8 +67,8 @@ runs false false c b n r l t = (refl, omega (arith, ltb→lt, le→leb))
 runs true false c b n r l t = absurd (omega (arith, ltb→lt, leb→le))
 runs false true c b n r l t = absurd (omega (arith, ltb→lt, leb→le))
 
-still : (S : Sizes) (o : ℕ) (p e : Place) (a : Axis) (c : ℕ) → ((b : Axis) → T (counted S b) → T (notBehind o p e b)) → T (notBehind o (put a p c) e a)
-    → (b : Axis) → T (counted S b) → T (notBehind o (put a p c) e b)
+still : (S : Sizes) (o : ℕ) (p e : Place) (a : Axis) (c : ℕ) → ((b : Axis) → T (counted S b) → T (notBehind o p e b))
+    → T (notBehind o (put a p c) e a) → (b : Axis) → T (counted S b) → T (notBehind o (put a p c) e b)
 still S o p e X c f t = elim [ X ↦ λ _. t | Y ↦ f Y | Z ↦ f Z ]
 still S o p e Y c f t = elim [ X ↦ f X | Y ↦ λ _. t | Z ↦ f Z ]
 still S o p e Z c f t = elim [ X ↦ f X | Y ↦ f Y | Z ↦ λ _. t ]
@@ -86,20 +88,24 @@ module _ (m : Map) (o : ℕ) (e : Place) (k : Inside (m .sizes) e) where
       let ct : T (counted (m .sizes) a) = differs-counts (m .sizes) p e i k a down l in
       let u = ahead-iff (m .sizes) o p e .0 f in
       let (d, v) = runs down (runsDown o a) (on p a) (on e a) (span (m .sizes) a) s l (u a ct) in
-      ((a, ct, g ∙ ap (along a) d), rw q (ahead-iff (m .sizes) o (put a p (go down (on p a))) e .1 (still (m .sizes) o p e a (go down (on p a)) u (rw (on-put a p (go down (on p a))) v))))
+      let c : ℕ = go down (on p a) in
+      ((a, ct, g ∙ ap (along a) d), rw q (ahead-iff (m .sizes) o (put a p c) e .1 (still (m .sizes) o p e a c u (rw (on-put a p c) v))))
 
-  module _ (works-e : T (works m e)) (free : T (stuck m o e) → ⊥)
-      (blocked : (p : Place) → Inside (m .sizes) p → T (stuck m o p) → (a : Axis) → T (counted (m .sizes) a) → (r : Place)
-      → next (m .sizes) p (ahead o a) ≡ At r → T (wall m p (ahead o a) r) ⊎ T (stuck m o r)) where
-    none : {p q : Place} {l : List ℕ} → Leads m e p q l → q ≡ e → Inside (m .sizes) p → T (aheadOrLevel (m .sizes) o p e) → T (stuck m o p) → ⊥
-    none {p} (stay f) g i h t = free (subst (λ (q : Place). T (stuck m o q)) (f ∙ g) t)
-    none {p} (hop {r = r} j n y L) g i h t =
-        let (pr, ln, en) = mayHop-iff m e p j r .0 y in
-        let ((a, ct, f), h′) = goes-ahead p r j i h n pr in
-        elim (blocked p i t a ct r (rw f at n)) [
-          | inl w ↦ no-wall m p j r ln (entered m e r works-e en) (rw f w)
-          | inr s ↦ none L g (next-in (m .sizes) p r i j n) h′ s
-        ]
+  -- so every node on the way is useless, the end too
+  stays-useless : T (works m e) → {p : Place} {l : List ℕ} → Leads m e p e l → Inside (m .sizes) p
+      → T (aheadOrLevel (m .sizes) o p e) → T (holds m o p useless) → T (holds m o e useless)
+  stays-useless w (stay f) i h t = subst (λ (q : Place). T (holds m o q useless)) f t
+  stays-useless w {p} (hop {r = r} j n y L) i h t =
+      let (t′, k′, n′) = mayHop-iff m e p j r .0 y in
+      let ((a, c, f), h′) = goes-ahead p r j i h n t′ in
+      let (q, n″, b) = blocks-read m (λ q. holds m o q useless) p j .0 (rw (← f) at (useless-iff m o p i .0 t .1 a c)) in
+      let d : q ≡ r = cc in
+      elim (rw d at b) [
+        | inl x ↦ absurd (no-wall m p j r k′ (entered m e r w n′) x)
+        | inr x ↦ stays-useless w L (next-in (m .sizes) p r i j n) h′ x
+      ]
 
-    pub law : (p : Place) → Inside (m .sizes) p → T (stuck m o p) → T (aheadOrLevel (m .sizes) o p e) → (l : List ℕ) → Path m p e l → ⊥
-    law p i t h l w = none (w .leading) refl i h t
+pub law : (m : Map) (o : ℕ) (p e : Place) → Inside (m .sizes) p → Inside (m .sizes) e
+    → T (holds m o p useless) → T (works m e) → (T (holds m o e useless) → ⊥) → T (aheadOrLevel (m .sizes) o p e)
+    → (l : List ℕ) → Path m p e l → ⊥
+law m o p e i k t w free h l path = free (stays-useless m o e k w (path .leading) i h t)

@@ -6,7 +6,7 @@ use mathlib.Core.List.{List, [], _∷_, map}
 use Prim.Native.Nat.{ℕ}
 use Rattle.mesh.specs.Mesh.{sizes, placeOf}
 use Rattle.mesh.specs.Cells.{Map, mapOf, wall}
-use Rattle.mesh.specs.Marks.{rule, marked, stuckWithin, stuck}
+use Rattle.mesh.specs.Marks.{rule, marked, stuckWithin, stuck, useless, holds}
 use Rattle.routes.specs.Differences.{aheadOrLevel}
 use Rattle.routes.specs.Paths.{leads}
 use Rattle.routes.specs.Computed.{computed}
@@ -30,7 +30,7 @@ found s =
     let m = s .map-of in
     let p = placeOf (m .sizes) (s .node) in
     let e = placeOf (m .sizes) (s .end) in
-    stuck m 0 p ∷ leads m e p e ∷ stuck m 0 e ∷ aheadOrLevel (m .sizes) 0 p e ∷ []
+    holds m 0 p useless ∷ leads m e p e ∷ holds m 0 e useless ∷ aheadOrLevel (m .sizes) 0 p e ∷ []
 
 abbrev said : Premise → List Bool
 said s = true ∷ true ∷ s .useless-end ∷ s .ahead-end ∷ []

@@ -8,7 +8,8 @@ use Rattle.mesh.specs.Answers.{checkMap}
 use Rattle.routes.specs.Differences.{preferred, hops, aheadOrLevel}
 use Rattle.routes.specs.Paths.{mayEnter, mayHop, leadsWithin, leads}
 use Rattle.routes.specs.Offered.{offers, offered, lowest, routeWithin, route, reached, reachedCount}
-use Rattle.routes.specs.Entries.{checkEnds, verdictCheck, verdictAnswer, routeCheck, routeAnswer, routeWritten, reachedCheck, reachedAnswer, reachedWritten}
+use Rattle.routes.specs.Entries.{checkEnds, verdictCheck, verdictAnswer, routeCheck, routeAnswer, routeWritten}
+use Rattle.routes.specs.Entries.{reachedCheck, reachedAnswer, reachedWritten}
 
 unfoldable pub computed : Unit {0}
 unfolding any sum table inRange next faultyCell badCell mayPass mayEnd linked firstBad checkMap preferred hops aheadOrLevel mayEnter

@@ -1,5 +1,5 @@
 -- 01, "Routes": differences of coordinates, preferred directions, hops. Assumes nothing.
-use mathlib.Core.Bool.{Bool, true, false, cond, _||_}
+use mathlib.Core.Bool.{Bool, false, cond, _||_}
 use Prim.Native.Nat.{ℕ, zero, suc, _+_}
 use lib.IntN.{ℤ, pos, negsuc, natAbs, subℕ}
 use lib.Dec.{eqb, leb}

@@ -1,7 +1,9 @@
 -- 01, "Routes": the offered set and the route; and what is reached on the way, the witness of a refusal. Assumes nothing.
 use mathlib.Core.Bool.{Bool, true, false}
 use mathlib.Core.List.{List, [], _∷_}
-use Prim.Native.Nat.{ℕ, zero, suc, _*_, _^_}
+use mathlib.Core.Path.{_≡_}
+use Prim.Native.Nat.{ℕ, zero, suc, _*_, _^_, _<_}
+use lib.Dec.{T}
 use Rattle.mesh.specs.Tools.{bit, sum, count, table}
 use Rattle.mesh.specs.Mesh.{nodes, number, placeOf}
 use Rattle.mesh.specs.Steps.{next}
@@ -36,6 +38,12 @@ routeWithin (suc n) m e p = number (m .sizes) p ∷ onward (routeWithin n m e) (
 
 unfoldable pub route : Map → Place → Place → List ℕ
 route m e p = routeWithin (hops p e) m e p
+
+-- The same as a relation: the nodes l lead from p to e, in the lowest-numbered offered direction at each node.
+pub data Lowest (m : Map) (e : Place) : Place → List ℕ → Type 0 where
+  ends : {p : Place} → p ≡ e → Lowest m e p (number (m .sizes) p ∷ [])
+  takes : {p r : Place} {l : List ℕ} (j : ℕ) → T (offers m e p j) → ((k : ℕ) → k < j → T (offers m e p k) → ⊥)
+      → next (m .sizes) p j ≡ At r → Lowest m e r l → Lowest m e p (number (m .sizes) p ∷ l)
 
 -- one byte for each node: 1 where preferred steps towards the end lead from the start to it; and how many they are
 abbrev pub reachedAt : Map → Place → Place → ℕ → Bool

@@ -28,12 +28,19 @@ pub data Leads (m : Map) (e : Place) : Place → Place → List ℕ → Type 0 w
   hop : {p r q : Place} {l : List ℕ} (j : ℕ) → next (m .sizes) p j ≡ At r → T (mayHop m e p j r)
       → Leads m e r q l → Leads m e p q (number (m .sizes) p ∷ l)
 
+-- a path from s to e: both may be its ends
 pub record Path (m : Map) (s e : Place) (l : List ℕ) : Type 0 where
   pub start-may : T (mayEnd (cellAt m s))
   pub end-may : T (mayEnd (cellAt m e))
   pub leading : Leads m e s e l
 
--- The same as a test. A path to e begins at p in direction j, if `rest` finds the rest of it. (`elim`, where `&&` would compute both sides.)
+-- A walk from p to q goes in any direction; e is where it means to end. It is a path to e if its hops are the Manhattan distance (proofs/Walks).
+pub data Walk (m : Map) (e : Place) : Place → Place → List ℕ → Type 0 where
+  stands : {p q : Place} → p ≡ q → Walk m e p q (number (m .sizes) p ∷ [])
+  goes : {p r q : Place} {l : List ℕ} (j : ℕ) → next (m .sizes) p j ≡ At r → T (linked m p j) → T (mayEnter m e r)
+      → Walk m e r q l → Walk m e p q (number (m .sizes) p ∷ l)
+
+-- Paths as a test. A path to e begins at p in direction j, if `rest` finds the rest of it. (`elim`, where `&&` would compute both sides.)
 abbrev pub beginsBy : Map → Place → (Place → Bool) → Place → ℕ → Next → Bool
 beginsBy m e rest p j (At r) = elim (mayHop m e p j r) [ true ↦ rest r | false ↦ false ]
 beginsBy m e rest p j Edge = false
