@@ -1,2 +1,4 @@
 pub mod Lists
+pub mod Ranks
 pub mod Joined
+pub mod Numbers
