@@ -74,7 +74,7 @@ module _ (S : Sizes) (marks : List ℕ) where
       getD-table (numberAmong S (unsafeNodes marks) firsts) (length marks) a 0 (unsafe-lt marks a u)
       ∙ cond-true (isIn a (unsafeNodes marks)) (rank firsts (low a)) 0 (T-unsafe marks a .1 u)
 
-  table-size : length (tableOf S marks) ≡ length marks
+  pub table-size : length (tableOf S marks) ≡ length marks
   unfolding tableOf
   table-size = length-table (numberAmong S (unsafeNodes marks) firsts) (length marks)
 
@@ -87,6 +87,13 @@ module _ (S : Sizes) (marks : List ℕ) where
     | inr h ↦ List·getD-eq-default (tableOf S marks) 0 (omega (arith, table-size, nltb→le a (length marks) h))
   ]
 
+  -- the lowest node of the component i + 1
+  pub first-number : (i : ℕ) → i < length firsts → getD (tableOf S marks) (getD firsts i 0) 0 ≡ suc i
+  first-number i h =
+      let a = getD firsts i 0 in
+      let l = T-first a .0 (at-in firsts i h) in
+      number-unsafe a (l .is-unsafe) ∙ ap (rank firsts) (low-fixed a l) ∙ rank-at firsts firsts-ascend i h
+
   pub numbers : Numbers S marks (howMany S marks) (tableOf S marks)
   unfolding howMany
   numbers =
@@ -94,10 +101,7 @@ module _ (S : Sizes) (marks : List ℕ) where
         size = table-size;
         safe = number-safe;
         in-range = λ a u. rw (number-unsafe a u) (rank-pos firsts (low a) (low-first a u), rank-few firsts (low a));
-        used = λ i h.
-            let a = getD firsts i 0 in
-            let l = T-first a .0 (at-in firsts i h) in
-            (a, l .is-unsafe, number-unsafe a (l .is-unsafe) ∙ ap (rank firsts) (low-fixed a l) ∙ rank-at firsts firsts-ascend i h);
+        used = λ i h. (getD firsts i 0, T-first (getD firsts i 0) .0 (at-in firsts i h) .is-unsafe, first-number i h);
         same = λ a b u v. (
           λ e.
               let f : rank firsts (low a) ≡ rank firsts (low b) = sym (number-unsafe a u) ∙ e ∙ number-unsafe b v in
