@@ -1,11 +1,11 @@
 -- Lists of node numbers: what is in one, what is kept of one, and lists that ascend. Assumes nothing.
 use mathlib.Core.Path.{_≡_, refl, sym, ap, _∙_, subst}
 use mathlib.Core.Logic.{_↔_, _⊎_, inl, inr}
-use mathlib.Core.Bool.{Bool, true, false, not, _&&_, _||_}
+use mathlib.Core.Bool.{Bool, true, false, not, _&&_}
 use mathlib.Core.List.{List, [], _∷_}
 use Prim.Native.Nat.{ℕ, zero, suc, _+_, _≤_, _<_}
 use native.Mathlib.Omega.{arith}
-use lib.Dec.{T, T-not, eqb, eqb→eq, eqb-refl}
+use lib.Dec.{T, T-not, eqb, eqb→eq}
 use lib.ListN.{length, getD}
 use Rattle.mesh.specs.Tools.{bit, table, sum, count}
 use Rattle.mesh.proofs.Tests.{T-or, T-eq, holds-true, tried}

@@ -1,20 +1,19 @@
 -- The table numbers the components as 01 says, and no other table does. A node's number is the rank of its component's lowest node among the
 -- lowest nodes. Assumes nothing.
-use mathlib.Core.Path.{_≡_, refl, sym, ap, _∙_, subst}
-use mathlib.Core.Logic.{_↔_, _⊎_, inl, inr}
-use mathlib.Core.Bool.{Bool, true, false, not, cond}
-use mathlib.Core.List.{List, [], _∷_}
-use Prim.Native.Nat.{ℕ, zero, suc, _+_, _≤_, _<_}
+use mathlib.Core.Path.{_≡_, sym, ap, _∙_, subst}
+use mathlib.Core.Logic.{_↔_, inl, inr}
+use mathlib.Core.Bool.{not}
+use mathlib.Core.List.{List}
+use Prim.Native.Nat.{ℕ, zero, suc, _≤_, _<_}
 use native.Mathlib.Omega.{arith}
 use native.Mathlib.Nat.{le-antisymm}
 use lib.Dec.{T, T-not, not-T, eqb, ltb, ltb→lt, nltb→le}
 use lib.ListN.{length, getD, List·getD-eq-default}
 use lib.Seq.{ext-getD}
-use Rattle.mesh.specs.Tools.{table}
 use Rattle.mesh.proofs.Tests.{T-eq, tried, cond-true, cond-false}
 use Rattle.mesh.proofs.Tables.{length-table, getD-table}
 use Rattle.mesh.specs.declared.Sizes.{Sizes}
-use Rattle.components.specs.Lists.{isIn, keep}
+use Rattle.components.specs.Lists.{isIn}
 use Rattle.components.specs.Touch.{unsafe, unsafeNodes, Joined, itself, component}
 use Rattle.components.specs.Components.{lowest, lowestNodes, numberAmong, tableOf, howMany}
 use Rattle.components.specs.Promise.{Lowest, Numbers}

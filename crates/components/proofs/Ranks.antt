@@ -1,15 +1,14 @@
 -- How many of an ascending list are not above a number: the only way to number the list upwards from 1. Assumes nothing.
-use mathlib.Core.Path.{_≡_, refl, sym, ap, _∙_, subst}
-use mathlib.Core.Logic.{_⊎_, inl, inr}
-use mathlib.Core.Bool.{Bool, true, false, not}
+use mathlib.Core.Path.{_≡_, refl, sym, ap, _∙_}
+use mathlib.Core.Logic.{inl, inr}
 use mathlib.Core.List.{List, [], _∷_}
 use Prim.Native.Nat.{ℕ, zero, suc, _+_, _≤_, _<_}
 use native.Mathlib.Omega.{arith}
 use lib.Dec.{T, leb, leb→le, le→leb, nleb→lt}
 use lib.ListN.{length, getD}
-use Rattle.mesh.proofs.Tests.{T-le, tried}
+use Rattle.mesh.proofs.Tests.{tried}
 use Rattle.components.specs.Lists.{isIn, keep}
-use Rattle.components.proofs.Lists.{T-in, in-first, in-none, keep-yes, T-keep, keep-few, keep-le, keep-tight, Ascending}
+use Rattle.components.proofs.Lists.{T-in, in-first, in-none, keep-yes, T-keep, keep-few, keep-tight, Ascending}
 
 abbrev pub rank : List ℕ → ℕ → ℕ
 rank l a = length (keep (λ k. leb k a) l)

@@ -1,26 +1,26 @@
 -- The records are those that 01 describes, and the whole promise is kept, by nothing but the definitions. Assumes nothing.
 use mathlib.Core.Path.{_≡_, refl, sym, ap, _∙_, subst}
-use mathlib.Core.Logic.{_↔_, _⊎_, inl, inr}
-use mathlib.Core.Bool.{Bool, true, false, not, _&&_}
+use mathlib.Core.Logic.{_↔_, inl, inr}
+use mathlib.Core.Bool.{Bool, _&&_}
 use mathlib.Core.List.{List, [], _∷_, map}
-use Prim.Native.Nat.{ℕ, zero, suc, _≤_, _<_}
+use Prim.Native.Nat.{ℕ, zero, suc, _<_}
 use native.Mathlib.Omega.{arith}
-use lib.Dec.{T, T-not, eqb, ltb}
+use lib.Dec.{T, eqb}
 use lib.ListN.{length, getD, length-map}
 use lib.Seq.{ext-getD}
 use Rattle.mesh.specs.Tools.{table, count}
 use Rattle.mesh.specs.Mesh.{Axis, X, Y, Z}
 use Rattle.mesh.proofs.Tests.{T-and, T-eq, tried}
 use Rattle.mesh.specs.declared.Sizes.{Sizes}
-use Rattle.components.specs.Lists.{isIn, keep, least, greatest}
-use Rattle.components.specs.Touch.{unsafe, unsafeNodes, Joined, itself, component}
-use Rattle.components.specs.Components.{lowestNodes, tableOf, coordinate, recordOf, recordsOf, howMany}
-use Rattle.components.specs.Promise.{Numbers, Extent, Records, Promise}
+use Rattle.components.specs.Lists.{isIn, least, greatest}
+use Rattle.components.specs.Touch.{unsafe, unsafeNodes, component}
+use Rattle.components.specs.Components.{tableOf, coordinate, recordOf, recordsOf, howMany}
+use Rattle.components.specs.Promise.{Extent, Records, Promise}
 use Rattle.components.specs.declared.Component.{Component}
 use Rattle.components.proofs.Lists.{keep-ext, keep-keep, keep-count}
 use Rattle.components.proofs.Ranks.{at-in}
 use Rattle.components.proofs.Extremes.{least-le, least-met, greatest-le, greatest-met}
-use Rattle.components.proofs.Joined.{T-unsafe, T-component, component-kept, end-unsafe}
+use Rattle.components.proofs.Joined.{T-component, component-kept, end-unsafe}
 use Rattle.components.proofs.Numbers.{firsts, T-first, table-size, number-safe, first-number, numbers, numbers-only}
 
 getD-map-in : {A : Type 0} (f : ℕ → A) (l : List ℕ) (i : ℕ) (c : A) → i < length l → getD (map f l) i c ≡ f (getD l i 0)
