@@ -10,14 +10,15 @@ use native.Mathlib.Nat.{le-antisymm}
 use lib.Dec.{T, T-not, not-T, eqb, ltb, ltb→lt, nltb→le}
 use lib.ListN.{length, getD, List·getD-eq-default}
 use lib.Seq.{ext-getD}
+use Rattle.mesh.specs.Tools.{table}
 use Rattle.mesh.proofs.Tests.{T-eq, tried, cond-true, cond-false}
 use Rattle.mesh.proofs.Tables.{length-table, getD-table}
 use Rattle.mesh.specs.declared.Sizes.{Sizes}
-use Rattle.components.specs.Lists.{isIn}
+use Rattle.components.specs.Lists.{isIn, keep}
 use Rattle.components.specs.Touch.{unsafe, unsafeNodes, Joined, itself, component}
 use Rattle.components.specs.Components.{lowest, lowestNodes, numberAmong, tableOf, howMany}
 use Rattle.components.specs.Promise.{Lowest, Numbers}
-use Rattle.components.proofs.Lists.{T-keep, Ascending, keep-ascends, first-in, first-lowest}
+use Rattle.components.proofs.Lists.{T-keep, keep-few, Ascending, keep-ascends, first-in, first-lowest}
 use Rattle.components.proofs.Ranks.{rank, rank-pos, rank-few, rank-lt, rank-at, rank-inj, at-in, rank-only}
 use Rattle.components.proofs.Joined.{T-unsafe, unsafe-lt, unsafe-ascends, component-ascends, end-unsafe, joined-trans, joined-sym, T-component, component-same}
 
@@ -111,6 +112,18 @@ module _ (S : Sizes) (marks : List ℕ) where
         rising = λ a b l k h.
             rw (number-unsafe a (l .is-unsafe), number-unsafe b (k .is-unsafe), low-fixed a l, low-fixed b k) (rank-lt firsts a b (T-first b .1 k) h);
       }
+
+  -- there are no more components than nodes, so that every number fits where the nodes' numbers do
+  pub how-many-le : howMany S marks ≤ length marks
+  unfolding howMany lowestNodes unsafeNodes
+  how-many-le =
+      let all : List ℕ = table (λ k. k) (length marks) in
+      omega (
+        arith,
+        keep-few (λ a. eqb (low a) a) (keep (unsafe marks) all),
+        keep-few (unsafe marks) all,
+        length-table (λ (k : ℕ). k) (length marks),
+      )
 
   -- any table that keeps the promise is this one
   module _ (n : ℕ) (t : List ℕ) (p : Numbers S marks n t) where
