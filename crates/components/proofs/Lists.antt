@@ -63,7 +63,8 @@ unfolding keep
 T-keep p [] k = (λ t. absurd (in-none k t), λ q. absurd (in-none k (q .0)))
 T-keep p (j ∷ js) k = split (tried (p j)) (T-keep p js k)
   where
-    split : T (p j) ⊎ T (not (p j)) → T (isIn k (keep p js)) ↔ (T (isIn k js) × T (p k)) → T (isIn k (keep p (j ∷ js))) ↔ (T (isIn k (j ∷ js)) × T (p k))
+    split : T (p j) ⊎ T (not (p j)) → T (isIn k (keep p js)) ↔ (T (isIn k js) × T (p k))
+        → T (isIn k (keep p (j ∷ js))) ↔ (T (isIn k (j ∷ js)) × T (p k))
     split (inl t) ih = rw (keep-yes p j js t) (
       λ h. elim (T-in k j (keep p js) .0 h) [
         | inl e ↦ rw e (in-first j js, t)
@@ -95,7 +96,8 @@ module _ (p q : ℕ → Bool) where
   keep-le [] h = omega arith
   keep-le (j ∷ js) h = split (tried (p j)) (tried (q j)) (keep-le js (λ k i. h k (T-in k j js .1 (inr i))))
     where
-      split : T (p j) ⊎ T (not (p j)) → T (q j) ⊎ T (not (q j)) → length (keep p js) ≤ length (keep q js) → length (keep p (j ∷ js)) ≤ length (keep q (j ∷ js))
+      split : T (p j) ⊎ T (not (p j)) → T (q j) ⊎ T (not (q j)) → length (keep p js) ≤ length (keep q js)
+          → length (keep p (j ∷ js)) ≤ length (keep q (j ∷ js))
       split (inl s) (inl t) ih = rw (keep-yes p j js s, keep-yes q j js t) (omega arith)
       split (inl s) (inr t) ih = absurd (T-not (q j) t (h j (in-first j js) s))
       split (inr s) (inl t) ih = rw (keep-no p j js (T-not (p j) s), keep-yes q j js t) (omega arith)
@@ -109,7 +111,8 @@ module _ (p q : ℕ → Bool) where
       below : (k : ℕ) → T (isIn k js) → T (p k) → T (q k)
       below k i = h k (T-in k j js .1 (inr i))
 
-      split : T (p j) ⊎ T (not (p j)) → T (q j) ⊎ T (not (q j)) → (length (keep q js) ≤ length (keep p js) → keep q js ≡ keep p js) → keep q (j ∷ js) ≡ keep p (j ∷ js)
+      split : T (p j) ⊎ T (not (p j)) → T (q j) ⊎ T (not (q j)) → (length (keep q js) ≤ length (keep p js) → keep q js ≡ keep p js)
+          → keep q (j ∷ js) ≡ keep p (j ∷ js)
       split (inl x) (inl y) ih =
           let e = keep-yes p j js x in
           let f = keep-yes q j js y in
@@ -185,7 +188,8 @@ unfolding keep
 keep-keep p q [] = refl
 keep-keep p q (j ∷ js) = split (q j) (keep-keep p q js)
   where
-    split : (b : Bool) → keep p (keep q js) ≡ keep (λ k. q k && p k) js → keep p (keepIf b j (keep q js)) ≡ keepIf (b && p j) j (keep (λ k. q k && p k) js)
+    split : (b : Bool) → keep p (keep q js) ≡ keep (λ k. q k && p k) js
+        → keep p (keepIf b j (keep q js)) ≡ keepIf (b && p j) j (keep (λ k. q k && p k) js)
     split true ih = ap (keepIf (p j) j) ih
     split false ih = ih
 

@@ -60,7 +60,8 @@ module _ (S : Sizes) (marks : List ℕ) where
   unfolding lowestNodes
   low-first a u =
       let j = low-joined a u in
-      T-keep (λ k. eqb (low k) k) (unsafeNodes marks) (low a) .1 (T-unsafe marks (low a) .1 (end-unsafe S marks j), T-eq (low (low a)) (low a) .1 (sym (low-same a (low a) j)))
+      let fixed : T (eqb (low (low a)) (low a)) = T-eq (low (low a)) (low a) .1 (sym (low-same a (low a) j)) in
+      T-keep (λ k. eqb (low k) k) (unsafeNodes marks) (low a) .1 (T-unsafe marks (low a) .1 (end-unsafe S marks j), fixed)
 
   pub firsts-ascend : Ascending firsts
   unfolding lowestNodes
@@ -83,7 +84,8 @@ module _ (S : Sizes) (marks : List ℕ) where
   number-safe a s = elim (tried (ltb a (length marks))) [
     | inl h ↦
         getD-table (numberAmong S (unsafeNodes marks) firsts) (length marks) a 0 (ltb→lt a (length marks) h)
-        ∙ cond-false (isIn a (unsafeNodes marks)) (rank firsts (low a)) 0 (not-T (isIn a (unsafeNodes marks)) λ i. T-not (unsafe marks a) s (T-unsafe marks a .0 i))
+        ∙ cond-false (isIn a (unsafeNodes marks)) (rank firsts (low a)) 0
+        (not-T (isIn a (unsafeNodes marks)) λ i. T-not (unsafe marks a) s (T-unsafe marks a .0 i))
     | inr h ↦ List·getD-eq-default (tableOf S marks) 0 (omega (arith, table-size, nltb→le a (length marks) h))
   ]
 

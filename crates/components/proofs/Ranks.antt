@@ -90,7 +90,9 @@ module _ (f : ℕ → ℕ) (n : ℕ) where
   rank-only (j ∷ js) asc s h up within onto =
       let (lo, hi) = within j (in-first j js) in
       let first : f j ≡ suc s = hit (onto (suc s) (omega arith) (omega arith)) in
-      let (e, g) = rank-only js (asc .1) (suc s) (omega arith) (λ a b p q. up a b (rest a p) (rest b q)) (λ a i. (omega (arith, up j a (in-first j js) (rest a i) (asc .0 a i)), within a (rest a i) .1)) (λ v p q. other v p (onto v (omega arith) q) first) in (
+      let (e, g) = rank-only js (asc .1) (suc s) (omega arith) (λ a b p q. up a b (rest a p) (rest b q))
+      (λ a i. (omega (arith, up j a (in-first j js) (rest a i) (asc .0 a i)), within a (rest a i) .1))
+      (λ v p q. other v p (onto v (omega arith) q) first) in (
         omega arith,
         λ a i. elim (T-in a j js .0 i) [
           | inl k ↦ rw (k, rank-first j js asc) (omega arith)

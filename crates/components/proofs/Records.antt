@@ -61,7 +61,8 @@ module _ (S : Sizes) (marks : List ℕ) where
         ∙ keep-count q (λ k. k) (length marks)
         ∙ ap (λ (n : ℕ). count n q) (sym (table-size S marks))
       where
-        agree : (k : ℕ) → T (isIn k (table (λ k. k) (length marks))) → T (unsafe marks k && isIn k members) ↔ T (eqb (getD (tableOf S marks) k 0) (suc i))
+        agree : (k : ℕ) → T (isIn k (table (λ k. k) (length marks)))
+            → T (unsafe marks k && isIn k members) ↔ T (eqb (getD (tableOf S marks) k 0) (suc i))
         agree k _ = (
           λ t. T-eq (getD (tableOf S marks) k 0) (suc i) .1 (T-members k .0 (T-and (unsafe marks k) (isIn k members) .0 t .1)),
           λ t.
@@ -95,7 +96,8 @@ module _ (S : Sizes) (marks : List ℕ) where
 
 -- ---- and nothing else keeps it
 
-extent-only : {S : Sizes} {t : List ℕ} {i : ℕ} {axis : Axis} {lo hi lo′ hi′ : ℕ} → Extent S t i axis lo hi → Extent S t i axis lo′ hi′ → (lo ≡ lo′) × (hi ≡ hi′)
+extent-only : {S : Sizes} {t : List ℕ} {i : ℕ} {axis : Axis} {lo hi lo′ hi′ : ℕ} → Extent S t i axis lo hi → Extent S t i axis lo′ hi′
+    → (lo ≡ lo′) × (hi ≡ hi′)
 extent-only e f =
     let (a, m, p) = e .at-lo in
     let (b, n, q) = f .at-lo in
@@ -122,5 +124,6 @@ module _ (S : Sizes) (marks : List ℕ) (n : ℕ) (t : List ℕ) (row : List Com
 
       same : (i : ℕ) → i < n → n ≡ howMany S marks → t ≡ tableOf S marks → getD row i none ≡ getD (recordsOf S marks) i none
       same i h e f =
-          let mine : Records S (tableOf S marks) (suc i) (getD row i none) = subst (λ (u : List ℕ). Records S u (suc i) (getD row i none)) f (p .records i none h) in
+          let mine : Records S (tableOf S marks) (suc i) (getD row i none) =
+          subst (λ (u : List ℕ). Records S u (suc i) (getD row i none)) f (p .records i none h) in
           records-only mine (promise S marks .records i none (omega arith))

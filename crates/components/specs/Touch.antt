@@ -30,7 +30,8 @@ touch p q = every (λ a. leb (apart p q a) 1) && between 1 2 (apart p q X + apar
 abbrev pub touching : Sizes → ℕ → ℕ → Bool
 touching S a b = touch (placeOf S a) (placeOf S b)
 
--- "A component is a set of unsafe nodes joined by touching": b is joined to a if a chain of unsafe nodes, each touching the one before, leads from a to b.
+-- "A component is a set of unsafe nodes joined by touching": b is joined to a if a chain of unsafe nodes, each touching the one before, leads
+-- from a to b.
 pub data Joined (S : Sizes) (marks : List ℕ) (a : ℕ) : ℕ → Type 0 where
   itself : T (unsafe marks a) → Joined S marks a a
   further : {b c : ℕ} → Joined S marks a b → T (touching S b c) → T (unsafe marks c) → Joined S marks a c

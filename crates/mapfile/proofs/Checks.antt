@@ -32,8 +32,8 @@ pub sizes-done : (S : Sizes) → (checkSizes S ≡ Done) ↔ InRange S
 unfolding inRange
 sizes-done S = (
   λ e.
-      let q : (((2 ≤ S .w) × (S .w ≤ 16)) × ((2 ≤ S .h) × (S .h ≤ 16))) × ((1 ≤ S .d) × (S .d ≤ 16)) = simp (T-and, T-le) at (unless-done (inRange S) BadSizes .0 e) in
-      record { w-lo = q .0 .0 .0; w-hi = q .0 .0 .1; h-lo = q .0 .1 .0; h-hi = q .0 .1 .1; d-lo = q .1 .0; d-hi = q .1 .1 },
+      let (((a, b), (c, d)), (f, g)) = simp (T-and, T-le) at (unless-done (inRange S) BadSizes .0 e) in
+      record { w-lo = a; w-hi = b; h-lo = c; h-hi = d; d-lo = f; d-hi = g },
   λ r. unless-done (inRange S) BadSizes .1 (simp (T-and, T-le) (((r .w-lo, r .w-hi), (r .h-lo, r .h-hi)), (r .d-lo, r .d-hi))),
 )
 
@@ -63,7 +63,8 @@ cells-done S cells = split (firstBad (badCell S) cells) (first-done (badCell S) 
     passed true r = (λ e. never r e, λ t. absurd t)
     passed false r = (λ e. tt, λ t. refl)
 
-    split : (n : ℕ) → (length cells ≤ n) ↔ NoneBad (badCell S) cells → (cond (ltb n (length cells)) (Refused (BadCell n)) Done ≡ Done) ↔ NoneBad (badCell S) cells
+    split : (n : ℕ) → (length cells ≤ n) ↔ NoneBad (badCell S) cells
+        → (cond (ltb n (length cells)) (Refused (BadCell n)) Done ≡ Done) ↔ NoneBad (badCell S) cells
     split n q = (
       λ e. q .0 (nltb→le n (length cells) (passed (ltb n (length cells)) (BadCell n) .0 e)),
       λ g. passed (ltb n (length cells)) (BadCell n) .1 (not-T (ltb n (length cells)) λ t. let l = q .1 g in omega (arith, ltb→lt n (length cells) t)),

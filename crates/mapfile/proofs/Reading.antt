@@ -40,8 +40,8 @@ pub T-granted : (file : List ℕ) (room : ℕ) → (readCheck file room ≡ Done
 unfolding readCheck
 T-granted file room = (
   λ h.
-      let ((((((lo, hi), (mark, zero-byte)), sized), (says, within)), holds), good) = simp (both-done, sizes-done, cells-done, unless-done, T-and, T-eq, T-le) at h in
-      record { least = lo; fits = hi; mark = mark; zero-byte = zero-byte; in-range = sized; says = says; inside = within; holds = holds; good = good },
+      let ((((((a, b), (c, d)), e), (f, g)), i), j) = simp (both-done, sizes-done, cells-done, unless-done, T-and, T-eq, T-le) at h in
+      record { least = a; fits = b; mark = c; zero-byte = d; in-range = e; says = f; inside = g; holds = i; good = j },
   λ g.
       simp (both-done, sizes-done, cells-done, unless-done, T-and, T-eq, T-le)
       ((((((g .least, g .fits), (g .mark, g .zero-byte)), g .in-range), (g .says, g .inside)), g .holds), g .good),
@@ -60,13 +60,15 @@ module _ (file : List ℕ) (bytes : (i : ℕ) → getD file i 0 < 256) (room : �
 
   mark-byte : (i : ℕ) → i < 4 → trailerAt file (8 + i) ≡ getD fileMark i 0
   unfolding hasMark
-  mark-byte i h = T-eq (trailerAt file (8 + i)) (getD fileMark i 0) .0 (T-all 4 (λ i. eqb (trailerAt file (8 + i)) (getD fileMark i 0)) .0 (g .mark) i h)
+  mark-byte i h =
+      T-eq (trailerAt file (8 + i)) (getD fileMark i 0) .0 (T-all 4 (λ i. eqb (trailerAt file (8 + i)) (getD fileMark i 0)) .0 (g .mark) i h)
 
   distance-bytes : fourBytes (distance S) ≡ trailerAt file 4 ∷ trailerAt file 5 ∷ trailerAt file 6 ∷ trailerAt file 7 ∷ []
   distance-bytes =
       let at : ℕ → ℕ = λ i. length file - 12 + i in
       ap fourBytes (sym (g .says))
-      ∙ bytes-of (trailerAt file 4) (trailerAt file 5) (trailerAt file 6) (trailerAt file 7) (bytes (at 4)) (bytes (at 5)) (bytes (at 6)) (bytes (at 7))
+      ∙ bytes-of (trailerAt file 4) (trailerAt file 5) (trailerAt file 6) (trailerAt file 7)
+      (bytes (at 4)) (bytes (at 5)) (bytes (at 6)) (bytes (at 7))
 
   its-trailer : table (trailerAt file) 12 ≡ trailer S
   unfolding table trailer
@@ -86,7 +88,8 @@ module _ (file : List ℕ) (bytes : (i : ℕ) → getD file i 0 < 256) (room : �
       let e : a + nodes S ≡ length file - 12 = omega (arith, g .inside) in
       sym (take-append-drop a file)
       ∙ ap (λ (l : List ℕ). take a file ++ l) (sym (take-append-drop (nodes S) (drop a file)))
-      ∙ ap (λ (l : List ℕ). take a file ++ (take (nodes S) (drop a file) ++ l)) (drop-drop (nodes S) a file ∙ ap (λ (n : ℕ). drop n file) e ∙ end ∙ its-trailer)
+      ∙ ap (λ (l : List ℕ). take a file ++ (take (nodes S) (drop a file) ++ l))
+      (drop-drop (nodes S) a file ∙ ap (λ (n : ℕ). drop n file) e ∙ end ∙ its-trailer)
 
   its-file : MapFile S (cellsIn file) file
   its-file =
@@ -122,6 +125,10 @@ module _ (S : Sizes) (notes cells : List ℕ) (r : InRange S) (whole : length ce
   unfolding trailer
   distance-is = rw (byte 4, byte 5, byte 6, byte 7) (number-back (distance S) (omega (arith, nodes-le S r)))
 
+  mark-at : (i : ℕ) → trailerAt its (8 + i) ≡ getD fileMark i 0
+  unfolding trailer
+  mark-at i = byte (8 + i) ∙ getD-append-add (S .w ∷ S .h ∷ S .d ∷ 0 ∷ fourBytes (distance S)) fileMark i 0
+
   cells-are : cellsIn its ≡ cells
   unfolding cellsIn
   cells-are =
@@ -137,8 +144,7 @@ module _ (S : Sizes) (notes cells : List ℕ) (r : InRange S) (whole : length ce
       record {
         least = omega (arith, size);
         fits = fits;
-        mark = T-all 4 (λ i. eqb (trailerAt its (8 + i)) (getD fileMark i 0)) .1 λ i h.
-            T-eq (trailerAt its (8 + i)) (getD fileMark i 0) .1 (byte (8 + i) ∙ getD-append-add (S .w ∷ S .h ∷ S .d ∷ 0 ∷ fourBytes (distance S)) fileMark i 0);
+        mark = T-all 4 (λ i. eqb (trailerAt its (8 + i)) (getD fileMark i 0)) .1 λ i h. T-eq (trailerAt its (8 + i)) (getD fileMark i 0) .1 (mark-at i);
         zero-byte = byte 3;
         in-range = subst InRange (sym sizes-are) r;
         says = distance-is ∙ sym (ap distance sizes-are);
@@ -163,7 +169,8 @@ module _ (file : List ℕ) {S : Sizes} {cells : List ℕ} (f : MapFile S cells f
   pub file-granted : (room : ℕ) → nodes S ≤ room → readCheck file room ≡ Done
   file-granted room h =
       let fits : length (f .notes ++ fileOf S cells) ≤ fileLimit = subst (λ (l : List ℕ). length l ≤ fileLimit) (f .parts) (f .fits) in
-      T-granted file room .1 (subst (λ (l : List ℕ). Granted l room) (sym (f .parts)) (read S (f .notes) cells (f .in-range) (f .count) room fits h (f .good)))
+      let whole = read S (f .notes) cells (f .in-range) (f .count) room fits h (f .good) in
+      T-granted file room .1 (subst (λ (l : List ℕ). Granted l room) (sym (f .parts)) whole)
 
   pub file-read : (room : ℕ) → nodes S ≤ room → readAnswer file room ≡ Read S
   unfolding readAnswer

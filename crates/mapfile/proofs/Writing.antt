@@ -40,13 +40,15 @@ module _ (S : Sizes) (cells : List ℕ) where
 
   -- the bytes written, as long as the writer says, read into any room that holds N
   pub reads-back : (out buffer : List ℕ) (n : ℕ) → writeAnswer S cells (length out) ≡ Number n → nodes S ≤ length buffer
-      → (readAnswer (take n (writeOut S cells out)) (length buffer) ≡ Read S) × (readOut (take n (writeOut S cells out)) buffer ≡ cells ++ drop (nodes S) buffer)
+      → (readAnswer (take n (writeOut S cells out)) (length buffer) ≡ Read S)
+      × (readOut (take n (writeOut S cells out)) buffer ≡ cells ++ drop (nodes S) buffer)
   unfolding writeAnswer writeWritten
   reads-back out buffer n e h =
       let (done, long) = granted-number (writeCheck S cells (length out)) (distance S) n e in
       let f = written-file (length out) done in
       let front : take n (writeOut S cells out) ≡ fileOf S cells =
-      ap (λ (a : Answer). take n (granted a (fileOf S cells ++ drop (distance S) out) out)) done ∙ take-at (fileOf S cells) (drop (distance S) out) n (file-size (f .count) ∙ long) in
+      ap (λ (a : Answer). take n (granted a (fileOf S cells ++ drop (distance S) out) out)) done
+      ∙ take-at (fileOf S cells) (drop (distance S) out) n (file-size (f .count) ∙ long) in
       rw front (file-read (fileOf S cells) f (length buffer) h, read-out (fileOf S cells) f buffer h)
     where
       granted-number : (a : Answer) (m k : ℕ) → numbered a m ≡ Number k → (a ≡ Done) × (m ≡ k)
