@@ -59,3 +59,15 @@ place-of S p i =
 -- two places of one number are one place
 pub number-eq : (S : Sizes) (p q : Place) → Inside S p → Inside S q → number S p ≡ number S q → p ≡ q
 number-eq S p q i j e = sym (place-of S p i) ∙ ap (placeOf S) e ∙ place-of S q j
+
+-- the first number after a row, and after a layer
+pub row-end : (w h y z : ℕ) → w + w * (y + h * z) ≡ w * ((y + 1) + h * z)
+row-end w h y z =
+    let e : (y + 1) + h * z ≡ (y + h * z) + 1 = omega arith in
+    let q : w * ((y + h * z) + 1) ≡ w * (y + h * z) + w = mul-add w (y + h * z) 1 ∙ ap (λ (j : ℕ). w * (y + h * z) + j) (mul-one w) in
+    rw e (omega arith)
+
+pub layer-end : (w h z : ℕ) → w * (h + h * z) ≡ w * (h * (z + 1))
+layer-end w h z =
+    let q : h * (z + 1) ≡ h * z + h = mul-add h z 1 ∙ ap (λ (j : ℕ). h * z + j) (mul-one h) in
+    ap (λ (j : ℕ). w * j) (omega arith)

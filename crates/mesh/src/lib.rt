@@ -1,5 +1,10 @@
 // The mesh: sizes, places, steps, and cells with their check. Its specs/ have the mark rules too.
 
+pub mod cells;
+pub mod entries;
+pub mod numbering;
+pub mod stepping;
+
 pub struct Sizes {
     pub w: usize,
     pub h: usize,

@@ -1,0 +1,53 @@
+-- The calls on a state: what each answers, and what its state then holds, for every input. Assumes nothing.
+use mathlib.Core.Bool.{Bool}
+use mathlib.Core.List.{List}
+use Prim.Native.Nat.{ℕ}
+use lib.Dec.{eqb}
+use lib.ListN.{length}
+use Rattle.mesh.specs.Cells.{mapOf, stateLength}
+use Rattle.mesh.specs.Marks.{isWord}
+use Rattle.mesh.specs.Answers.{granted, numbered, _andThen_, unless, checkSizes, checkMap, checkOrientation, checkNode, checkDirection}
+use Rattle.mesh.specs.declared.Sizes.{Sizes}
+use Rattle.mesh.specs.declared.Refusal.the-variants.{BadLength, BadNumber, Unsound, NoPair, NotHeld}
+use Rattle.mesh.specs.declared.Answer.{Answer}
+use Rattle.mesh.specs.declared.Numbered.{Numbered}
+use Rattle.field.specs.State.{mapIn, pair, says}
+use Rattle.field.specs.Sound.{within, sound, fresh}
+use Rattle.field.specs.Hear.{changed, outstanding}
+
+-- "a state, the room for a fresh one included, not exactly 7 × N": 1, 2
+unfoldable pub checkState : Sizes → List ℕ → Answer
+checkState S s = checkSizes S andThen unless (eqb (length s) (stateLength S)) BadLength
+
+-- making a fresh state: 1, 2, 4, 5
+unfoldable pub freshAnswer : Sizes → ℕ → List ℕ → List ℕ → Answer
+freshAnswer S o cells s = checkState S s andThen checkMap S cells andThen checkOrientation o
+
+unfoldable pub freshWritten : Sizes → ℕ → List ℕ → List ℕ → List ℕ
+freshWritten S o cells s = granted (freshAnswer S o cells s) (fresh (mapOf S cells) o) s
+
+-- "the state is not sound for this orientation": 1, 2, 5, 6
+unfoldable pub soundAnswer : Sizes → ℕ → List ℕ → Answer
+soundAnswer S o s = checkState S s andThen checkOrientation o andThen unless (sound S o s) Unsound
+
+-- the number of words outstanding: 1, 2, 5, 6
+unfoldable pub outstandingAnswer : Sizes → ℕ → List ℕ → Numbered
+outstandingAnswer S o s = numbered (soundAnswer S o s) (outstanding S s)
+
+-- hearing the word w at node k from direction j: 1, 2, 5, 6, 7, 8
+abbrev pub checkWord : ℕ → Answer
+checkWord w = unless (isWord w) BadNumber
+
+unfoldable pub hearAnswer : Sizes → ℕ → ℕ → ℕ → ℕ → List ℕ → Answer
+hearAnswer S o k j w s =
+    checkState S s
+    andThen checkOrientation o
+    andThen checkNode S k
+    andThen checkDirection j
+    andThen checkWord w
+    andThen unless (sound S o s) Unsound
+    andThen unless (pair (mapIn S s) k j) NoPair
+    andThen unless (within w (says S s k j)) NotHeld
+
+unfoldable pub hearWritten : Sizes → ℕ → ℕ → ℕ → ℕ → List ℕ → List ℕ
+hearWritten S o k j w s = granted (hearAnswer S o k j w s) (changed S o s k j w) s

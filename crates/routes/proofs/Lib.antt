@@ -1,0 +1,4 @@
+pub mod Differences
+pub mod Paths
+pub mod Law
+pub mod Premises
