@@ -2,23 +2,35 @@
 -- nodes to add than rounds. Assumes nothing.
 use mathlib.Core.Path.{_≡_, refl, sym, ap, _∙_, subst}
 use mathlib.Core.Logic.{_↔_, _⊎_, inl, inr}
-use mathlib.Core.Bool.{Bool, true, false, not, _&&_, _||_}
-use mathlib.Core.List.{List, [], _∷_}
-use Prim.Native.Nat.{ℕ, zero, suc, _+_, _-_, _≤_, _<_}
+use mathlib.Core.Bool.{Bool, not, _||_}
+use mathlib.Core.List.{List}
+use Prim.Native.Nat.{ℕ, zero, suc, _+_, _≤_, _<_}
 use native.Mathlib.Omega.{arith}
-use native.Mathlib.Nat.{add-comm}
-use lib.Dec.{T, T-not, eqb, leb, nleb→lt, leb→le, eqb-refl}
-use lib.ListN.{length, getD, List·getD-eq-default}
-use Rattle.mesh.specs.Tools.{between, table}
-use Rattle.mesh.specs.Mesh.{Axis, X, Y, Z, every, placeOf}
-use Rattle.mesh.proofs.Tests.{T-or, T-eq, T-no, T-lt, tried}
+use lib.Dec.{T, eqb, leb, nleb→lt, leb→le, eqb-refl}
+use lib.ListN.{length, List·getD-eq-default}
+use Rattle.mesh.specs.Tools.{table}
+use Rattle.mesh.specs.Mesh.{Axis, X, Y, Z, nodes, placeOf}
+use Rattle.mesh.specs.Cells.{Map}
+use Rattle.mesh.specs.Marks.{markAt, unsafeAt, marksOf}
+use Rattle.mesh.proofs.Tables.{getD-table}
+use Rattle.mesh.proofs.Tests.{T-every, T-and, T-or, T-eq, T-le, tried}
 use Rattle.mesh.specs.declared.Sizes.{Sizes}
 use Rattle.mesh.specs.declared.Place.{Place}
-use Rattle.components.specs.Lists.{anyOf, isIn, keep}
+use Rattle.components.specs.Lists.{isIn, keep}
 use Rattle.components.specs.Touch.{unsafe, unsafeNodes, apart, touch, touching, Joined, itself, further, near, grown, component, joined}
-use Rattle.components.proofs.Lists.{T-any-of, T-keep, keep-few, keep-le, keep-tight, keep-ext, T-table, Ascending, keep-ascends, table-ascends}
+use Rattle.components.proofs.Lists.{T-any-of, T-keep, keep-few, keep-tight, keep-ext, T-table, Ascending, keep-ascends, table-ascends}
 
--- ---- touching goes both ways
+-- ---- touching: as a statement, and that it goes both ways
+
+abbrev pub differences : Place → Place → ℕ
+differences p q = apart p q X + apart p q Y + apart p q Z
+
+pub T-touch : (p q : Place) → T (touch p q) ↔ (((a : Axis) → apart p q a ≤ 1) × ((1 ≤ differences p q) × (differences p q ≤ 2)))
+unfolding touch
+T-touch p q = (
+  λ t. simp (T-every, T-and, T-le) at t,
+  λ h. simp (T-every, T-and, T-le) h,
+)
 
 apart-sym : (p q : Place) (a : Axis) → apart p q a ≡ apart q p a
 apart-sym p q X = omega arith
@@ -34,32 +46,39 @@ module _ (S : Sizes) (marks : List ℕ) where
   joined-trans j (itself u) = j
   joined-trans j (further k t u) = further (joined-trans j k) t u
 
-  start-unsafe : {a b : ℕ} → Joined S marks a b → T (unsafe marks a)
+  pub start-unsafe : {a b : ℕ} → Joined S marks a b → T (unsafe marks a)
   start-unsafe (itself u) = u
   start-unsafe (further j t u) = start-unsafe j
 
-  end-unsafe : {a b : ℕ} → Joined S marks a b → T (unsafe marks b)
+  pub end-unsafe : {a b : ℕ} → Joined S marks a b → T (unsafe marks b)
   end-unsafe (itself u) = u
   end-unsafe (further j t u) = u
 
   pub joined-sym : {a b : ℕ} → Joined S marks a b → Joined S marks b a
   joined-sym (itself u) = itself u
-  joined-sym {a} (further {b} {c} j t u) = joined-trans (further (itself u) (rw (touch-sym (placeOf S c) (placeOf S b)) t) (end-unsafe j)) (joined-sym j)
+  joined-sym {a} (further {b} {c} j t u) =
+      let back : T (touching S c b) = rw (touch-sym (placeOf S c) (placeOf S b)) t in
+      joined-trans (further (itself u) back (end-unsafe j)) (joined-sym j)
 
 -- ---- the list of unsafe nodes
+
+pub unsafe-lt : (marks : List ℕ) (k : ℕ) → T (unsafe marks k) → k < length marks
+unsafe-lt marks k u = elim (tried (leb (length marks) k)) [
+  | inl h ↦ absurd (subst (λ (b : ℕ). T (not (eqb b 0))) (List·getD-eq-default marks 0 (leb→le (length marks) k h)) u)
+  | inr h ↦ nleb→lt (length marks) k h
+]
 
 pub T-unsafe : (marks : List ℕ) (k : ℕ) → T (isIn k (unsafeNodes marks)) ↔ T (unsafe marks k)
 unfolding unsafeNodes
 T-unsafe marks k = (
   λ i. T-keep (unsafe marks) (table (λ j. j) (length marks)) k .0 i .1,
-  λ u. T-keep (unsafe marks) (table (λ j. j) (length marks)) k .1 (T-table (λ j. j) (length marks) k .1 (k, within u, refl), u),
+  λ u. T-keep (unsafe marks) (table (λ j. j) (length marks)) k .1 (T-table (λ j. j) (length marks) k .1 (k, unsafe-lt marks k u, refl), u),
 )
-  where
-    within : T (unsafe marks k) → k < length marks
-    within u = elim (tried (leb (length marks) k)) [
-      | inl h ↦ absurd (subst (λ (b : ℕ). T (not (eqb b 0))) (List·getD-eq-default marks 0 (leb→le (length marks) k h)) u)
-      | inr h ↦ nleb→lt (length marks) k h
-    ]
+
+-- by the mark bytes of a map the unsafe nodes are those of the mark rules
+pub unsafe-of : (m : Map) (o k : ℕ) → k < nodes (m .sizes) → unsafe (marksOf m o) k ≡ unsafeAt m o (placeOf (m .sizes) k)
+unfolding marksOf unsafeAt
+unsafe-of m o k h = ap (λ (b : ℕ). not (eqb b 0)) (getD-table (λ i. markAt m o (placeOf (m .sizes) i)) (nodes (m .sizes)) k 0 h)
 
 pub unsafe-ascends : (marks : List ℕ) → Ascending (unsafeNodes marks)
 unfolding unsafeNodes
@@ -67,76 +86,79 @@ unsafe-ascends marks = keep-ascends (unsafe marks) (table (λ j. j) (length mark
 
 -- ---- the rounds
 
-module _ (S : Sizes) (nodes : List ℕ) (a : ℕ) where
+module _ (S : Sizes) (among : List ℕ) (a : ℕ) where
   -- what a round asks of a node
   abbrev asks : ℕ → ℕ → Bool
   asks zero = eqb a
-  asks (suc n) = near S (grown S nodes a n)
+  asks (suc n) = near S (grown S among a n)
 
-  kept : (n : ℕ) → grown S nodes a n ≡ keep (asks n) nodes
+  kept : (n : ℕ) → grown S among a n ≡ keep (asks n) among
   unfolding grown
   kept zero = refl
   kept (suc n) = refl
 
   -- a round asks no more than the one before
-  wider : (n k : ℕ) → T (isIn k nodes) → T (asks n k) → T (asks (suc n) k)
+  wider : (n k : ℕ) → T (isIn k among) → T (asks n k) → T (asks (suc n) k)
   wider n k i t =
-      let here : T (isIn k (grown S nodes a n)) = rw (kept n) (T-keep (asks n) nodes k .1 (i, t)) in
-      T-any-of (grown S nodes a n) (λ j. eqb j k || touching S j k) .1 (k, here, T-or (eqb k k) (touching S k k) .1 (inl (eqb-refl k)))
+      let here : T (isIn k (grown S among a n)) = rw (kept n) (T-keep (asks n) among k .1 (i, t)) in
+      T-any-of (grown S among a n) (λ j. eqb j k || touching S j k) .1 (k, here, T-or (eqb k k) (touching S k k) .1 (inl (eqb-refl k)))
 
-  again : (n : ℕ) → grown S nodes a (suc n) ≡ grown S nodes a n → grown S nodes a (suc (suc n)) ≡ grown S nodes a (suc n)
-  again n e = kept (suc (suc n)) ∙ ap (λ (l : List ℕ). keep (near S l) nodes) e ∙ sym (kept (suc n))
+  again : (n : ℕ) → grown S among a (suc n) ≡ grown S among a n → grown S among a (suc (suc n)) ≡ grown S among a (suc n)
+  again n e = kept (suc (suc n)) ∙ ap (λ (l : List ℕ). keep (near S l) among) e ∙ sym (kept (suc n))
 
   -- a round that adds no node is the last
-  stop : (n : ℕ) → length (grown S nodes a (suc n)) ≤ length (grown S nodes a n) → grown S nodes a (suc n) ≡ grown S nodes a n
+  stop : (n : ℕ) → length (grown S among a (suc n)) ≤ length (grown S among a n) → grown S among a (suc n) ≡ grown S among a n
   stop n l =
-      let fewer : length (keep (asks (suc n)) nodes) ≤ length (keep (asks n) nodes) = omega (arith, ap length (kept n), ap length (kept (suc n))) in
-      kept (suc n) ∙ keep-tight (asks n) (asks (suc n)) nodes (wider n) fewer ∙ sym (kept n)
+      let fewer : length (keep (asks (suc n)) among) ≤ length (keep (asks n) among) = omega (arith, ap length (kept n), ap length (kept (suc n))) in
+      kept (suc n) ∙ keep-tight (asks n) (asks (suc n)) among (wider n) fewer ∙ sym (kept n)
 
   -- after n rounds either that was the last, or at least n nodes are in
-  ladder : (n : ℕ) → (grown S nodes a (suc n) ≡ grown S nodes a n) ⊎ (n ≤ length (grown S nodes a n))
+  ladder : (n : ℕ) → (grown S among a (suc n) ≡ grown S among a n) ⊎ (n ≤ length (grown S among a n))
   ladder zero = inr (omega arith)
   ladder (suc n) = elim (ladder n) [
     | inl e ↦ inl (again n e)
-    | inr h ↦ elim (tried (leb (length (grown S nodes a (suc n))) (length (grown S nodes a n)))) [
-      | inl t ↦ inl (again n (stop n (leb→le (length (grown S nodes a (suc n))) (length (grown S nodes a n)) t)))
-      | inr t ↦ inr (omega (arith, nleb→lt (length (grown S nodes a (suc n))) (length (grown S nodes a n)) t))
+    | inr h ↦ elim (tried (leb (length (grown S among a (suc n))) (length (grown S among a n)))) [
+      | inl t ↦ inl (again n (stop n (leb→le (length (grown S among a (suc n))) (length (grown S among a n)) t)))
+      | inr t ↦ inr (omega (arith, nleb→lt (length (grown S among a (suc n))) (length (grown S among a n)) t))
     ]
   ]
 
-  settled : grown S nodes a (suc (length nodes)) ≡ component S nodes a
+  settled : grown S among a (suc (length among)) ≡ component S among a
   unfolding component
-  settled = elim (ladder (length nodes)) [
+  settled = elim (ladder (length among)) [
     | inl e ↦ e
-    | inr h ↦ stop (length nodes) (omega (arith, ap length (kept (suc (length nodes))), keep-few (asks (suc (length nodes))) nodes))
+    | inr h ↦ stop (length among) (omega (arith, ap length (kept (suc (length among))), keep-few (asks (suc (length among))) among))
   ]
 
   -- the component by its last round
-  last : component S nodes a ≡ keep (asks (length nodes)) nodes
+  last : component S among a ≡ keep (asks (length among)) among
   unfolding component
-  last = kept (length nodes)
+  last = kept (length among)
 
-  T-last : (k : ℕ) → T (isIn k (component S nodes a)) ↔ (T (isIn k nodes) × T (asks (length nodes) k))
-  T-last k = rw last (T-keep (asks (length nodes)) nodes k)
+  T-last : (k : ℕ) → T (isIn k (component S among a)) ↔ (T (isIn k among) × T (asks (length among) k))
+  T-last k = rw last (T-keep (asks (length among)) among k)
 
-  pub component-ascends : Ascending nodes → Ascending (component S nodes a)
-  component-ascends h = rw last (keep-ascends (asks (length nodes)) nodes h)
+  pub component-ascends : Ascending among → Ascending (component S among a)
+  component-ascends h = rw last (keep-ascends (asks (length among)) among h)
 
-  pub component-kept : component S nodes a ≡ keep (λ k. isIn k (component S nodes a)) nodes
-  component-kept = last ∙ keep-ext (asks (length nodes)) (λ k. isIn k (component S nodes a)) nodes λ k i. (λ t. T-last k .1 (i, t), λ h. T-last k .0 h .1)
+  pub component-kept : component S among a ≡ keep (λ k. isIn k (component S among a)) among
+  component-kept =
+      last
+      ∙ keep-ext (asks (length among)) (λ k. isIn k (component S among a)) among λ k i. (λ t. T-last k .1 (i, t), λ h. T-last k .0 h .1)
 
   -- the component has its own node, if that is one of the nodes, and is closed under touching
-  own : T (isIn a nodes) → (n : ℕ) → T (asks n a)
+  own : T (isIn a among) → (n : ℕ) → T (asks n a)
   own i zero = eqb-refl a
   own i (suc n) = wider n a i (own i n)
 
-  closed : (j k : ℕ) → T (isIn j (component S nodes a)) → T (touching S j k) → T (isIn k nodes) → T (isIn k (component S nodes a))
+  closed : (j k : ℕ) → T (isIn j (component S among a)) → T (touching S j k) → T (isIn k among) → T (isIn k (component S among a))
   unfolding component
   closed j k i t m =
-      let n = length nodes in
-      let hit : T (asks (suc n) k) = T-any-of (grown S nodes a n) (λ j. eqb j k || touching S j k) .1 (j, i, T-or (eqb j k) (touching S j k) .1 (inr t)) in
-      let e : keep (asks (suc n)) nodes ≡ component S nodes a = sym (kept (suc n)) ∙ settled in
-      rw e at (T-keep (asks (suc n)) nodes k .1 (m, hit))
+      let n = length among in
+      let meets : T (eqb j k || touching S j k) = T-or (eqb j k) (touching S j k) .1 (inr t) in
+      let hit : T (asks (suc n) k) = T-any-of (grown S among a n) (λ j. eqb j k || touching S j k) .1 (j, i, meets) in
+      let e : keep (asks (suc n)) among ≡ component S among a = sym (kept (suc n)) ∙ settled in
+      rw e at (T-keep (asks (suc n)) among k .1 (m, hit))
 
 -- ---- `joined` computes `Joined`
 
@@ -160,6 +182,20 @@ module _ (S : Sizes) (marks : List ℕ) where
       T-last S (unsafeNodes marks) a a .1 (i, own S (unsafeNodes marks) a i (length (unsafeNodes marks)))
   complete {a} (further {b} {c} j t u) = closed S (unsafeNodes marks) a b c (complete j) t (T-unsafe marks c .1 u)
 
+  pub T-component : (a b : ℕ) → T (isIn b (component S (unsafeNodes marks) a)) ↔ Joined S marks a b
+  unfolding component
+  T-component a b = (sound a (length (unsafeNodes marks)) b, complete)
+
   pub T-joined : (a b : ℕ) → T (joined S marks a b) ↔ Joined S marks a b
-  unfolding joined component
-  T-joined a b = (sound a (length (unsafeNodes marks)) b, complete)
+  unfolding joined
+  T-joined a b = T-component a b
+
+  -- nodes that are joined have one component
+  pub component-same : {a b : ℕ} → Joined S marks a b → component S (unsafeNodes marks) a ≡ component S (unsafeNodes marks) b
+  component-same {a} {b} j =
+      component-kept S (unsafeNodes marks) a
+      ∙ keep-ext (λ k. isIn k (component S (unsafeNodes marks) a)) (λ k. isIn k (component S (unsafeNodes marks) b)) (unsafeNodes marks) (λ k i. (
+        λ t. T-component b k .1 (joined-trans S marks (joined-sym S marks j) (T-component a k .0 t)),
+        λ t. T-component a k .1 (joined-trans S marks j (T-component b k .0 t)),
+      ))
+      ∙ sym (component-kept S (unsafeNodes marks) b)

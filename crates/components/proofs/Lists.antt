@@ -1,13 +1,13 @@
 -- Lists of node numbers: what is in one, what is kept of one, and lists that ascend. Assumes nothing.
 use mathlib.Core.Path.{_≡_, refl, sym, ap, _∙_, subst}
 use mathlib.Core.Logic.{_↔_, _⊎_, inl, inr}
-use mathlib.Core.Bool.{Bool, true, false, not, _||_}
+use mathlib.Core.Bool.{Bool, true, false, not, _&&_}
 use mathlib.Core.List.{List, [], _∷_}
-use Prim.Native.Nat.{ℕ, zero, suc, _≤_, _<_}
+use Prim.Native.Nat.{ℕ, zero, suc, _+_, _≤_, _<_}
 use native.Mathlib.Omega.{arith}
-use lib.Dec.{T, T-not, eqb, eqb→eq, eqb-refl}
+use lib.Dec.{T, T-not, eqb, eqb→eq}
 use lib.ListN.{length, getD}
-use Rattle.mesh.specs.Tools.{table}
+use Rattle.mesh.specs.Tools.{bit, table, sum, count}
 use Rattle.mesh.proofs.Tests.{T-or, T-eq, holds-true, tried}
 use Rattle.components.specs.Lists.{anyOf, isIn, keepIf, keep}
 
@@ -63,7 +63,8 @@ unfolding keep
 T-keep p [] k = (λ t. absurd (in-none k t), λ q. absurd (in-none k (q .0)))
 T-keep p (j ∷ js) k = split (tried (p j)) (T-keep p js k)
   where
-    split : T (p j) ⊎ T (not (p j)) → T (isIn k (keep p js)) ↔ (T (isIn k js) × T (p k)) → T (isIn k (keep p (j ∷ js))) ↔ (T (isIn k (j ∷ js)) × T (p k))
+    split : T (p j) ⊎ T (not (p j)) → T (isIn k (keep p js)) ↔ (T (isIn k js) × T (p k))
+        → T (isIn k (keep p (j ∷ js))) ↔ (T (isIn k (j ∷ js)) × T (p k))
     split (inl t) ih = rw (keep-yes p j js t) (
       λ h. elim (T-in k j (keep p js) .0 h) [
         | inl e ↦ rw e (in-first j js, t)
@@ -95,7 +96,8 @@ module _ (p q : ℕ → Bool) where
   keep-le [] h = omega arith
   keep-le (j ∷ js) h = split (tried (p j)) (tried (q j)) (keep-le js (λ k i. h k (T-in k j js .1 (inr i))))
     where
-      split : T (p j) ⊎ T (not (p j)) → T (q j) ⊎ T (not (q j)) → length (keep p js) ≤ length (keep q js) → length (keep p (j ∷ js)) ≤ length (keep q (j ∷ js))
+      split : T (p j) ⊎ T (not (p j)) → T (q j) ⊎ T (not (q j)) → length (keep p js) ≤ length (keep q js)
+          → length (keep p (j ∷ js)) ≤ length (keep q (j ∷ js))
       split (inl s) (inl t) ih = rw (keep-yes p j js s, keep-yes q j js t) (omega arith)
       split (inl s) (inr t) ih = absurd (T-not (q j) t (h j (in-first j js) s))
       split (inr s) (inl t) ih = rw (keep-no p j js (T-not (p j) s), keep-yes q j js t) (omega arith)
@@ -109,7 +111,8 @@ module _ (p q : ℕ → Bool) where
       below : (k : ℕ) → T (isIn k js) → T (p k) → T (q k)
       below k i = h k (T-in k j js .1 (inr i))
 
-      split : T (p j) ⊎ T (not (p j)) → T (q j) ⊎ T (not (q j)) → (length (keep q js) ≤ length (keep p js) → keep q js ≡ keep p js) → keep q (j ∷ js) ≡ keep p (j ∷ js)
+      split : T (p j) ⊎ T (not (p j)) → T (q j) ⊎ T (not (q j)) → (length (keep q js) ≤ length (keep p js) → keep q js ≡ keep p js)
+          → keep q (j ∷ js) ≡ keep p (j ∷ js)
       split (inl x) (inl y) ih =
           let e = keep-yes p j js x in
           let f = keep-yes q j js y in
@@ -177,3 +180,32 @@ table-ascends f (suc n) h = (
   λ k i. let (j, l, e) = T-table (λ i. f (suc i)) n k .0 i in rw e (h 0 (suc j) (omega arith)),
   table-ascends (λ i. f (suc i)) n (λ i j l. h (suc i) (suc j) (omega arith)),
 )
+
+-- ---- counts
+
+pub keep-keep : (p q : ℕ → Bool) (l : List ℕ) → keep p (keep q l) ≡ keep (λ k. q k && p k) l
+unfolding keep
+keep-keep p q [] = refl
+keep-keep p q (j ∷ js) = split (q j) (keep-keep p q js)
+  where
+    split : (b : Bool) → keep p (keep q js) ≡ keep (λ k. q k && p k) js
+        → keep p (keepIf b j (keep q js)) ≡ keepIf (b && p j) j (keep (λ k. q k && p k) js)
+    split true ih = ap (keepIf (p j) j) ih
+    split false ih = ih
+
+pub sum-first : (n : ℕ) (f : ℕ → ℕ) → sum (suc n) f ≡ f 0 + sum n (λ i. f (suc i))
+unfolding sum
+sum-first zero f = refl
+sum-first (suc n) f = omega (arith, sum-first n f)
+
+pub keep-count : (p : ℕ → Bool) (f : ℕ → ℕ) (n : ℕ) → length (keep p (table f n)) ≡ count n (λ i. p (f i))
+unfolding table keep sum
+keep-count p f zero = refl
+keep-count p f (suc n) =
+    split (p (f 0))
+    ∙ ap (λ (m : ℕ). bit (p (f 0)) + m) (keep-count p (λ i. f (suc i)) n)
+    ∙ sym (sum-first n (λ k. bit (p (f k))))
+  where
+    split : (b : Bool) → length (keepIf b (f 0) (keep p (table (λ i. f (suc i)) n))) ≡ bit b + length (keep p (table (λ i. f (suc i)) n))
+    split true = omega arith
+    split false = omega arith

@@ -30,7 +30,8 @@ touch p q = every (λ a. leb (apart p q a) 1) && between 1 2 (apart p q X + apar
 abbrev pub touching : Sizes → ℕ → ℕ → Bool
 touching S a b = touch (placeOf S a) (placeOf S b)
 
--- "A component is a set of unsafe nodes joined by touching": b is joined to a if a chain of unsafe nodes, each touching the one before, leads from a to b.
+-- "A component is a set of unsafe nodes joined by touching": b is joined to a if a chain of unsafe nodes, each touching the one before, leads
+-- from a to b.
 pub data Joined (S : Sizes) (marks : List ℕ) (a : ℕ) : ℕ → Type 0 where
   itself : T (unsafe marks a) → Joined S marks a a
   further : {b c : ℕ} → Joined S marks a b → T (touching S b c) → T (unsafe marks c) → Joined S marks a c
@@ -41,12 +42,12 @@ abbrev pub near : Sizes → List ℕ → ℕ → Bool
 near S some k = anyOf some λ j. eqb j k || touching S j k
 
 unfoldable pub grown : Sizes → List ℕ → ℕ → ℕ → List ℕ
-grown S nodes a zero = keep (eqb a) nodes
-grown S nodes a (suc n) = keep (near S (grown S nodes a n)) nodes
+grown S among a zero = keep (eqb a) among
+grown S among a (suc n) = keep (near S (grown S among a n)) among
 
 -- the component of node a, ascending, among these unsafe nodes
 unfoldable pub component : Sizes → List ℕ → ℕ → List ℕ
-component S nodes a = grown S nodes a (length nodes)
+component S among a = grown S among a (length among)
 
 unfoldable pub joined : Sizes → List ℕ → ℕ → ℕ → Bool
 joined S marks a b = isIn b (component S (unsafeNodes marks) a)

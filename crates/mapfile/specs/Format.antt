@@ -1,11 +1,11 @@
 -- 01, "Map file": the bytes of a file, as written and as read. Assumes nothing.
-use mathlib.Core.Bool.{Bool, not, _&&_}
+use mathlib.Core.Bool.{Bool, not}
 use mathlib.Core.List.{List, [], _∷_, _++_}
 use mathlib.Core.Path.{_≡_}
 use Prim.Native.Nat.{ℕ, _+_, _-_, _*_, _/_, _%_, _<_, _≤_}
 use lib.ListN.{length, getD, take, drop}
-use lib.Dec.{T, eqb, leb}
-use Rattle.mesh.specs.Tools.{all, between}
+use lib.Dec.{T, eqb}
+use Rattle.mesh.specs.Tools.{all}
 use Rattle.mesh.specs.Mesh.{sizes, InRange, nodes}
 use Rattle.mesh.specs.Cells.{badCell}
 use Rattle.mesh.specs.declared.Sizes.{Sizes}

@@ -1,0 +1,4 @@
+pub mod Checks
+pub mod Bytes
+pub mod Reading
+pub mod Writing
