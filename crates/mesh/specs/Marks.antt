@@ -2,11 +2,12 @@
 use mathlib.Core.Bool.{Bool, true, false, cond, not, _&&_, _||_}
 use mathlib.Core.List.{List}
 use mathlib.Core.Path.{_≡_}
-use Prim.Native.Nat.{ℕ, zero, suc, _+_, _*_, _/_, _%_}
+use mathlib.Core.Logic.{_↔_}
+use Prim.Native.Nat.{ℕ, zero, suc, _+_, _-_, _*_, _/_, _%_, _<_}
 use lib.Dec.{T, eqb, leb}
 use Rattle.mesh.specs.Tools.{bit, implies, table}
-use Rattle.mesh.specs.Mesh.{Axis, span, every, nodes, placeOf}
-use Rattle.mesh.specs.Steps.{next, ahead, reversed}
+use Rattle.mesh.specs.Mesh.{Axis, X, Y, Z, span, every, place, nodes, placeOf, Inside}
+use Rattle.mesh.specs.Steps.{next, runsDown, ahead, behind, reversed}
 use Rattle.mesh.specs.Cells.{Map, faulty, works, wall}
 use Rattle.mesh.specs.declared.Sizes.{Sizes}
 use Rattle.mesh.specs.declared.Place.{Place}
@@ -63,6 +64,15 @@ heading o cantReach = reversed o
 abbrev pub holds : Map → ℕ → Place → Kind → Bool
 holds m o p k = stuck m (heading o k) p
 
+-- 01's two rules as they stand, for any assignment of marks: p works, and on every counted axis its neighbour on that side blocks it.
+abbrev pub Ruled : Map → (Axis → ℕ) → (Place → Bool) → Place → Type 0
+Ruled m side mark p = T (works m p) × ((a : Axis) → T (counted (m .sizes) a) → T (blocks m mark p (side a)))
+
+-- "useless if on every counted axis its neighbour ahead ..", "can't-reach if on every counted axis its neighbour behind .."
+pub record Rules (m : Map) (o : ℕ) (marks : Kind → Place → Bool) : Type 0 where
+  pub of-useless : (p : Place) → Inside (m .sizes) p → T (marks useless p) ↔ Ruled m (ahead o) (marks useless) p
+  pub of-cant-reach : (p : Place) → Inside (m .sizes) p → T (marks cantReach p) ↔ Ruled m (behind o) (marks cantReach) p
+
 -- "Mark byte: 0 none, 1 faulty, 2 useless, 4 can't-reach, 6 both."
 unfoldable pub byteOf : (Kind → Bool) → ℕ
 byteOf has = 2 * bit (has useless) + 4 * bit (has cantReach)
@@ -70,6 +80,10 @@ byteOf has = 2 * bit (has useless) + 4 * bit (has cantReach)
 unfoldable pub has : ℕ → Kind → Bool
 has b useless = eqb (b / 2 % 2) 1
 has b cantReach = eqb (b / 4 % 2) 1
+
+-- "A word is 0, 2, 4 or 6."
+unfoldable pub isWord : ℕ → Bool
+isWord b = eqb b 0 || eqb b 2 || eqb b 4 || eqb b 6
 
 unfoldable pub markAt : Map → ℕ → Place → ℕ
 markAt m o p = cond (faulty m p) 1 (byteOf (holds m o p))
@@ -89,6 +103,29 @@ byteBlocks b k = eqb b 1 || has b k
 unfoldable pub ruleByte : Sizes → ℕ → (ℕ → ℕ) → ℕ
 ruleByte S o heard = byteOf λ k. rule S (heading o k) λ j. byteBlocks (heard j) k
 
--- "A word is 0, 2, 4 or 6."
-unfoldable pub isWord : ℕ → Bool
-isWord w = leb w 6 && eqb (w % 2) 0
+-- "For a working node, heard is 8 where no neighbour exists, 1 where the neighbour is faulty, else a word."
+pub record Heard (m : Map) (p : Place) (heard : ℕ → ℕ) : Type 0 where
+  pub edge : (j : ℕ) → j < 6 → next (m .sizes) p j ≡ Edge → heard j ≡ 8
+  pub dead : (j : ℕ) (q : Place) → next (m .sizes) p j ≡ At q → T (wall m p j q) → heard j ≡ 1
+  pub word : (j : ℕ) (q : Place) → next (m .sizes) p j ≡ At q → T (not (wall m p j q)) → T (isWord (heard j))
+
+-- what p hears so if each neighbour tells it its byte
+abbrev pub readBy : Map → (Place → ℕ) → Place → ℕ → Next → ℕ
+readBy m bytes p j (At q) = cond (wall m p j q) 1 (bytes q)
+readBy m bytes p j Edge = 8
+
+abbrev pub readAt : Map → (Place → ℕ) → Place → ℕ → ℕ
+readAt m bytes p j = readBy m bytes p j (next (m .sizes) p j)
+
+-- In steps left, so that all eight orientations are one case. The steps left at coordinate c of an axis of n, and the coordinate with c left.
+abbrev pub flip : Bool → ℕ → ℕ → ℕ
+flip true n c = c
+flip false n c = n - 1 - c
+
+-- the place with s .x, s .y and s .z steps left
+abbrev pub toGo : Sizes → ℕ → Place → Place
+toGo S o s = place (flip (runsDown o X) (S .w) (s .x)) (flip (runsDown o Y) (S .h) (s .y)) (flip (runsDown o Z) (S .d) (s .z))
+
+-- faulty or stuck
+abbrev pub shut : Map → ℕ → Place → Bool
+shut m o p = faulty m p || stuck m o p
