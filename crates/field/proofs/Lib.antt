@@ -1,2 +1,5 @@
 pub mod State
 pub mod Decide
+pub mod Same
+pub mod Rule
+pub mod Fresh

@@ -14,7 +14,8 @@ use Rattle.mesh.specs.declared.Sizes.{Sizes}
 use Rattle.mesh.specs.declared.Place.{Place}
 use Rattle.mesh.specs.declared.Next.{Next}
 use Rattle.mesh.specs.declared.Next.the-variants.{At, Edge}
-use Rattle.mesh.proofs.Tests.{T-and, T-lt, T-eq, bool-ext}
+use native.Mathlib.Omega.{arith}
+use Rattle.mesh.proofs.Tests.{T-and, T-no, T-lt, T-eq, bool-ext}
 use Rattle.mesh.proofs.Tables.{getD-table}
 use Rattle.mesh.proofs.Numbers.{number-of, number-lt, place-in, place-of}
 use Rattle.mesh.proofs.Steps.{next-in, dir-led}
@@ -87,3 +88,14 @@ module _ (m : Map) (k j : ℕ) where
       let inn : Inside (m .sizes) q = next-in (m .sizes) p q (place-in (m .sizes) k l) j e in
       let f : neighbour (m .sizes) k j ≡ number (m .sizes) q = ap (numberAt (m .sizes)) e in
       record { lt = l; works-k = w; speaker = q; there = e; free = rw (f, faulty-place m q inn) at v }
+
+  -- where two talk there is neither the edge nor a wall
+  pub pair-edge : T (pair m k j) → next (m .sizes) p j ≡ Edge → ⊥
+  pair-edge t e = let h : next (m .sizes) p j ≡ At (pair-talks t .speaker) = pair-talks t .there in let z : _≡_ {A = ℕ} 0 1 = cc in omega arith
+
+  pub pair-wall : (q : Place) → T (pair m k j) → next (m .sizes) p j ≡ At q → T (wall m p j q) → ⊥
+  pair-wall q t e b =
+      let r = pair-talks t in
+      let h : next (m .sizes) p j ≡ At (r .speaker) = r .there in
+      let f : q ≡ r .speaker = cc in
+      T-no (wall m p j (r .speaker)) .0 (r .free) (rw f at b)

@@ -16,14 +16,14 @@ unfoldable pub addMarks : ℕ → ℕ → ℕ
 addMarks b w = byteOf λ a. has b a || has w a
 
 -- "Hearing a word adds its marks to the one heard byte and then sets that node's own byte by the rule. No other byte changes."
-unfoldable pub added : List ℕ → ℕ → ℕ → ℕ → List ℕ
-added s k j w = set s (7 * k + 1 + j) (addMarks (heard s k j) w)
+unfoldable pub added : ℕ → ℕ → ℕ → List ℕ → List ℕ
+added k j w s = set s (7 * k + 1 + j) (addMarks (heard s k j) w)
 
 unfoldable pub ruledAt : Sizes → ℕ → ℕ → List ℕ → List ℕ
 ruledAt S o k s = set s (7 * k) (ruleByte S o (heard s k))
 
-unfoldable pub changed : Sizes → ℕ → List ℕ → ℕ → ℕ → ℕ → List ℕ
-changed S o s k j w = ruledAt S o k (added s k j w)
+unfoldable pub changed : Sizes → ℕ → ℕ → ℕ → ℕ → List ℕ → List ℕ
+changed S o k j w s = ruledAt S o k (added k j w s)
 
 -- "Outstanding: the number of ordered pairs of a working listener and a working neighbour whose own byte differs from the word heard."
 abbrev pub news : Map → List ℕ → ℕ → ℕ → Bool

@@ -15,7 +15,7 @@ use Rattle.mesh.specs.declared.Numbered.the-variants.{Number}
 use Rattle.field.specs.State.{own, heard, StateOf, worksNode, pair}
 use Rattle.field.specs.Sound.{_⊆_, Sound, fresh}
 use Rattle.field.specs.Hear.{outstandingOn}
-use Rattle.field.specs.Entries.{outstandingAnswer, hearWritten}
+use Rattle.field.specs.Entries.{outstandingAnswer, hearOut}
 use Rattle.field.specs.Rounds.{Later, FullRounds}
 
 -- W: the number of working nodes
@@ -33,7 +33,7 @@ module _ (m : Map) (o : ℕ) where
   -- The promise of a map m, an orientation o, and a sound state s of that map.
   pub record Promise (s : List ℕ) : Type 0 where
     -- a word heard changes two bytes of its listener alone;
-    pub alone : (k j w i : ℕ) → i ≢ 7 * k → i ≢ 7 * k + 1 + j → getD (hearWritten S o k j w s) i 0 ≡ getD s i 0
+    pub alone : (k j w i : ℕ) → i ≢ 7 * k → i ≢ 7 * k + 1 + j → getD (hearOut S o k j w s) i 0 ≡ getD s i 0
     -- whatever calls come, the state stays sound, and a state of the map, and no mark is taken away;
     pub sound : (t : List ℕ) → Later S o s t → Sound S o t × StateOf m t
     pub kept : (t : List ℕ) → Later S o s t → (k : ℕ) → k < nodes S → own s k ⊆ own t k

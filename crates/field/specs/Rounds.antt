@@ -7,7 +7,7 @@ use lib.Dec.{T}
 use Rattle.mesh.specs.Cells.{Map}
 use Rattle.mesh.specs.declared.Sizes.{Sizes}
 use Rattle.field.specs.State.{pair, says}
-use Rattle.field.specs.Entries.{freshWritten, hearWritten}
+use Rattle.field.specs.Entries.{freshOut, hearOut}
 
 -- A call on a state: listener, direction and word; a question, which changes nothing; or a fresh state made of these cells.
 pub data Call : Type 0 where
@@ -17,9 +17,9 @@ pub data Call : Type 0 where
 
 -- the state after a call, granted or refused
 abbrev pub after : Sizes → ℕ → List ℕ → Call → List ℕ
-after S o s (hearing k j w) = hearWritten S o k j w s
+after S o s (hearing k j w) = hearOut S o k j w s
 after S o s asking = s
-after S o s (making cells) = freshWritten S o cells s
+after S o s (making cells) = freshOut S cells o s
 
 -- and after several, one after another
 abbrev pub run : Sizes → ℕ → List ℕ → List Call → List ℕ

@@ -8,8 +8,8 @@ use lib.ListN.{length}
 use Rattle.mesh.specs.Tools.{implies, all, table}
 use Rattle.mesh.specs.Mesh.{nodes, number, placeOf}
 use Rattle.mesh.specs.Steps.{next}
-use Rattle.mesh.specs.Cells.{Map, faulty, works, wall, stateLength}
-use Rattle.mesh.specs.Marks.{Kind, useless, cantReach, has, ruleByte, isWord}
+use Rattle.mesh.specs.Cells.{Map, faulty, wall, stateLength}
+use Rattle.mesh.specs.Marks.{Kind, useless, cantReach, has, ruleByte, readAt, isWord}
 use Rattle.mesh.specs.declared.Sizes.{Sizes}
 use Rattle.mesh.specs.declared.Place.{Place}
 use Rattle.mesh.specs.declared.Next.{Next}
@@ -71,15 +71,9 @@ pub record SoundOn (m : Map) (o : ℕ) (s : List ℕ) : Type 0 where
 abbrev pub Sound : Sizes → ℕ → List ℕ → Type 0
 Sound S o s = SoundOn (mapIn S s) o s
 
--- "Fresh: heard words are 0, own bytes follow from that." What node k has heard from direction j, its own byte, and the byte at i.
-abbrev pub unheard : Map → Place → ℕ → Next → ℕ
-unheard m p j Edge = 8
-unheard m p j (At q) = cond (wall m p j q) 1 0
-
+-- "Fresh: heard words are 0, own bytes follow from that." What node k has heard from direction j, its own byte, and the byte i of its seven.
 unfoldable pub freshHeard : Map → ℕ → ℕ → ℕ
-freshHeard m k j =
-    let p = placeOf (m .sizes) k in
-    cond (faulty m p) (faultyHears m p j) (unheard m p j (next (m .sizes) p j))
+freshHeard m k j = let p = placeOf (m .sizes) k in cond (faulty m p) (faultyHears m p j) (readAt m (λ q. 0) p j)
 
 unfoldable pub freshOwn : Map → ℕ → ℕ → ℕ
 freshOwn m o k = cond (faultyNode m k) 1 (ruleByte (m .sizes) o (freshHeard m k))
