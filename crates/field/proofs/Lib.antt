@@ -3,3 +3,8 @@ pub mod Decide
 pub mod Same
 pub mod Rule
 pub mod Fresh
+pub mod Hear
+pub mod Calls
+pub mod Later
+pub mod Exact
+pub mod Rounds

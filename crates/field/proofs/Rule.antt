@@ -1,15 +1,22 @@
 -- The byte rule reads six bytes, and what it gives grows with the marks that they hold. Assumes nothing.
 use mathlib.Core.Path.{_≡_, ap, fun-ext}
-use mathlib.Core.Bool.{Bool}
+use mathlib.Core.Bool.{Bool, _||_}
+use mathlib.Core.Logic.{inr}
 use Prim.Native.Nat.{ℕ, _<_}
-use lib.Dec.{T}
+use lib.Dec.{T, eqb}
 use Rattle.mesh.specs.Steps.{ahead, runsDown}
-use Rattle.mesh.specs.Marks.{Kind, heading, byteOf, has, rule, byteBlocks, ruleByte}
+use Rattle.mesh.specs.Marks.{Kind, heading, byteOf, has, isWord, rule, byteBlocks, ruleByte}
 use Rattle.mesh.specs.declared.Sizes.{Sizes}
+use Rattle.mesh.proofs.Tests.{T-or}
 use Rattle.mesh.proofs.Steps.{dir-lt}
 use Rattle.mesh.proofs.Rule.{rule-same, rule-grows}
-use Rattle.mesh.proofs.Bytes.{has-byte}
+use Rattle.mesh.proofs.Bytes.{has-byte, word-not-one}
 use Rattle.field.specs.Sound.{_⊆_}
+
+-- a byte that holds the marks of a word blocks where the word does
+pub word-blocks : (v w : ℕ) → T (isWord v) → v ⊆ w → (a : Kind) → T (byteBlocks v a) → T (byteBlocks w a)
+unfolding byteBlocks
+word-blocks v w t f a b = T-or (eqb w 1) (has w a) .1 (inr (f a (rw (word-not-one v t) at b)))
 
 module _ (S : Sizes) (o : ℕ) (g h : ℕ → ℕ) where
   abbrev blocked : (ℕ → ℕ) → Kind → ℕ → Bool
