@@ -8,3 +8,5 @@ pub mod Calls
 pub mod Later
 pub mod Exact
 pub mod Rounds
+pub mod Exists
+pub mod Promise
