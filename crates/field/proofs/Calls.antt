@@ -5,12 +5,13 @@ use mathlib.Core.Bool.{Bool, true, false, cond}
 use mathlib.Core.List.{List}
 use Prim.Native.Nat.{ℕ, _+_, _*_, _<_, _≤_}
 use native.Mathlib.Omega.{arith}
+use native.Mathlib.Decide.{ℕ-discrete}
 use lib.Dec.{T, eqb, leb, ltb}
 use lib.ListN.{getD, length}
 use Rattle.mesh.specs.Mesh.{inRange, nodes}
 use Rattle.mesh.specs.Cells.{Map, stateLength}
-use Rattle.mesh.specs.Marks.{isWord}
-use Rattle.mesh.specs.Answers.{granted, numbered, _andThen_, unless, checkSizes, checkOrientation, checkNode, checkDirection}
+use Rattle.mesh.specs.Marks.{isWord, ruleByte}
+use Rattle.mesh.specs.Answers.{granted, numbered, _andThen_, unless, checkSizes, checkMap, checkOrientation, checkNode, checkDirection}
 use Rattle.mesh.specs.declared.Sizes.{Sizes}
 use Rattle.mesh.specs.declared.Refusal.{Refusal}
 use Rattle.mesh.specs.declared.Refusal.the-variants.{BadLength, BadNumber, Unsound, NoPair, NotHeld}
@@ -18,13 +19,14 @@ use Rattle.mesh.specs.declared.Answer.{Answer}
 use Rattle.mesh.specs.declared.Answer.the-variants.{Done, Refused}
 use Rattle.mesh.specs.declared.Numbered.the-variants.{Number, NotNumbered}
 use Rattle.mesh.proofs.Tests.{T-eq, T-le}
-use Rattle.field.specs.State.{mapIn, pair, says}
+use Rattle.field.specs.State.{own, heard, mapIn, pair, says}
 use Rattle.field.specs.Sound.{_⊆_, within, sound, Sound, SoundOn}
-use Rattle.field.specs.Hear.{changed, outstanding, outstandingOn}
-use Rattle.field.specs.Entries.{checkState, checkWord, soundAnswer, outstandingAnswer, hearAnswer, hearOut}
+use Rattle.field.specs.Hear.{addMarks, changed, outstanding, outstandingOn}
+use Rattle.field.specs.Entries.{checkState, checkWord, freshAnswer, soundAnswer, outstandingAnswer, hearAnswer, hearOut}
 use Rattle.field.proofs.Decide.{within-iff, sound-iff}
 use Rattle.field.proofs.Same.{on-sound, pair-in, outstanding-in}
-use Rattle.field.proofs.Hear.{others-kept}
+use Rattle.field.proofs.Rule.{ruled-same}
+use Rattle.field.proofs.Hear.{others-kept, heard-new, own-new}
 
 -- a call is granted exactly where each check is passed
 both : (a b : Answer) → (a andThen b ≡ Done) ↔ ((a ≡ Done) × (b ≡ Done))
@@ -39,11 +41,16 @@ state-passed : (S : Sizes) (n : ℕ) → (checkState S n ≡ Done) ↔ (T (inRan
 unfolding checkState
 state-passed S n = simp (checkState, both, passed, T-eq) (λ x. x, λ x. x)
 
-sound-passed : (S : Sizes) (o : ℕ) (s : List ℕ) → (soundAnswer S o s ≡ Done) ↔ (((T (inRange S) × (length s ≡ stateLength S)) × (o ≤ 7)) × Sound S o s)
+pub fresh-passed : (S : Sizes) (cells : List ℕ) (o n : ℕ) → (freshAnswer S cells o n ≡ Done)
+    ↔ (((T (inRange S) × (n ≡ stateLength S)) × (checkMap S cells ≡ Done)) × (o ≤ 7))
+unfolding freshAnswer
+fresh-passed S cells o n = simp (freshAnswer, state-passed, both, passed, T-le) (λ x. x, λ x. x)
+
+pub sound-passed : (S : Sizes) (o : ℕ) (s : List ℕ) → (soundAnswer S o s ≡ Done) ↔ (((T (inRange S) × (length s ≡ stateLength S)) × (o ≤ 7)) × Sound S o s)
 unfolding soundAnswer
 sound-passed S o s = simp (soundAnswer, state-passed, both, passed, T-le, sound-iff) (λ x. x, λ x. x)
 
-hear-passed : (S : Sizes) (o k j w : ℕ) (s : List ℕ) → (hearAnswer S o k j w s ≡ Done)
+pub hear-passed : (S : Sizes) (o k j w : ℕ) (s : List ℕ) → (hearAnswer S o k j w s ≡ Done)
     ↔ ((((((((T (inRange S) × (length s ≡ stateLength S)) × (o ≤ 7)) × (k < nodes S)) × (j ≤ 5)) × T (isWord w)) × Sound S o s) × T (pair (mapIn S s) k j))
     × (w ⊆ says S s k j))
 unfolding hearAnswer
@@ -61,6 +68,32 @@ granted-or-not S o k j w s = go (hearAnswer S o k j w s)
 -- "No other byte changes."
 pub alone : (S : Sizes) (o k j w : ℕ) (s : List ℕ) (i : ℕ) → i ≢ 7 * k → i ≢ 7 * k + 1 + j → getD (hearOut S o k j w s) i 0 ≡ getD s i 0
 alone S o k j w s i n h = elim (granted-or-not S o k j w s) [ inl e ↦ rw (e .1) (others-kept S o s k j w i n h) | inr e ↦ rw e ]
+
+-- granted at two states in which the listener has heard the same, a word leaves the same seven bytes
+pub itself : (S : Sizes) (o k j w : ℕ) (s t : List ℕ) → hearAnswer S o k j w s ≡ Done → hearAnswer S o k j w t ≡ Done → ((i : ℕ) → i < 6 → heard s k i ≡ heard t k i)
+    → (own (hearOut S o k j w s) k ≡ own (hearOut S o k j w t) k) × ((i : ℕ) → i < 6 → heard (hearOut S o k j w s) k i ≡ heard (hearOut S o k j w t) k i)
+itself S o k j w s t a b e = rw (a, b) (own-same, heard-same)
+  where
+    fits : (u : List ℕ) → hearAnswer S o k j w u ≡ Done → (length u ≡ stateLength S) × (k < nodes S) × (j < 6)
+    fits u d = let q = hear-passed S o k j w u .0 d .0 .0 .0 .0 in (q .0 .0 .0 .1, q .0 .1, omega arith)
+
+    new : (u : List ℕ) → hearAnswer S o k j w u ≡ Done → heard (changed S o k j w u) k j ≡ addMarks (heard u k j) w
+    new u d = let (n, l, h) = fits u d in heard-new S o u k j w n l h
+
+    rules : (u : List ℕ) → hearAnswer S o k j w u ≡ Done → own (changed S o k j w u) k ≡ ruleByte S o (heard (changed S o k j w u) k)
+    rules u d = let (n, l, h) = fits u d in own-new S o u k j w n l h
+
+    heard-same : (i : ℕ) → i < 6 → heard (changed S o k j w s) k i ≡ heard (changed S o k j w t) k i
+    heard-same i h = elim (ℕ-discrete i j) [
+      | yes f ↦ rw (f, new s a, new t b, e j (fits s a .2))
+      | no n ↦
+          others-kept S o s k j w (7 * k + 1 + i) (omega arith) (omega arith)
+          ∙ e i h
+          ∙ sym (others-kept S o t k j w (7 * k + 1 + i) (omega arith) (omega arith))
+    ]
+
+    own-same : own (changed S o k j w s) k ≡ own (changed S o k j w t) k
+    own-same = rules s a ∙ ruled-same S o (heard (changed S o k j w s) k) (heard (changed S o k j w t) k) heard-same ∙ sym (rules t b)
 
 module _ (m : Map) (o : ℕ) (fit : T (inRange (m .sizes))) (turn : o ≤ 7) (s : List ℕ) (z : SoundOn m o s) where
   -- a word that the speaker holds is granted

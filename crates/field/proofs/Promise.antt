@@ -3,16 +3,21 @@ use mathlib.Core.Path.{_≡_, refl, sym, _∙_, subst}
 use mathlib.Core.List.{List}
 use Prim.Native.Nat.{ℕ, _≤_}
 use lib.Dec.{T}
+use lib.ListN.{length}
 use Rattle.mesh.specs.Mesh.{inRange}
-use Rattle.mesh.specs.Cells.{Map}
+use Rattle.mesh.specs.Cells.{Map, mapOf}
+use Rattle.mesh.specs.declared.Sizes.{Sizes}
+use Rattle.mesh.specs.declared.Answer.the-variants.{Done}
 use Rattle.mesh.specs.declared.Numbered.the-variants.{Number}
-use Rattle.field.specs.State.{StateOf}
-use Rattle.field.specs.Sound.{SoundOn, Sound}
+use Rattle.field.specs.State.{mapIn, StateOf}
+use Rattle.field.specs.Sound.{SoundOn, Sound, fresh}
 use Rattle.field.specs.Hear.{outstandingOn}
+use Rattle.field.specs.Entries.{freshAnswer, freshOut, soundAnswer}
 use Rattle.field.specs.Rounds.{Later}
-use Rattle.field.specs.Promise.{Settled, Promise}
+use Rattle.field.specs.Promise.{Settled, Promise, FreshPromise}
+use Rattle.field.proofs.Fresh.{fresh-promise}
 use Rattle.field.proofs.Same.{on-state, on-sound, sound-on}
-use Rattle.field.proofs.Calls.{alone, counts}
+use Rattle.field.proofs.Calls.{fresh-passed, sound-passed, alone, itself, counts}
 use Rattle.field.proofs.Later.{Grown, run-grown}
 use Rattle.field.proofs.Exact.{no-more, all-marks}
 use Rattle.field.proofs.Rounds.{rounds-grown, rounds-settle}
@@ -33,6 +38,7 @@ module _ (m : Map) (o : ℕ) (fit : T (inRange (m .sizes))) (turn : o ≤ 7) whe
       let z : SoundOn m o s = sound-on m o s y h in
       record {
         alone = λ k j w i. alone (m .sizes) o k j w s i;
+        itself = λ k j w t. itself (m .sizes) o k j w s t;
         sound = λ t l. let g = later-grown s t z l in (on-sound m o t (g .sound), on-state m o t (g .sound));
         kept = λ t l k _. later-grown s t z l .owns k;
         no-more = λ t l. no-more m o t (later-grown s t z l .sound);
@@ -41,3 +47,17 @@ module _ (m : Map) (o : ℕ) (fit : T (inRange (m .sizes))) (turn : o ≤ 7) whe
         settles = λ t n l r. settled-of t (rounds-grown m o fit turn t z r .sound) (rounds-settle m o fit turn s t n z l r);
         rounds = λ n. full-rounds m o n s;
       }
+
+-- The same from what the calls answer. A state that is found sound keeps the promise, for the map that it tells,
+pub found-promise : (S : Sizes) (o : ℕ) (s : List ℕ) → soundAnswer S o s ≡ Done → Promise (mapIn S s) o s
+found-promise S o s e =
+    let (((fit, _), turn), z) = sound-passed S o s .0 e in
+    promise (mapIn S s) o fit turn s z (on-state (mapIn S s) o s z)
+
+-- and so does a state that is made fresh, for the map that it is made of.
+pub made-promise : (S : Sizes) (cells : List ℕ) (o : ℕ) (old : List ℕ) → freshAnswer S cells o (length old) ≡ Done
+    → FreshPromise (mapOf S cells) o × Promise (mapOf S cells) o (freshOut S cells o old)
+made-promise S cells o old e =
+    let (((fit, _), _), turn) = fresh-passed S cells o (length old) .0 e in
+    let f = fresh-promise (mapOf S cells) o in
+    (f, rw e (promise (mapOf S cells) o fit turn (fresh (mapOf S cells) o) (f .sound) (f .state)))

@@ -41,6 +41,11 @@ faulty-same m s z k h =
 pub faulty-place : (m : Map) (q : Place) → Inside (m .sizes) q → faultyNode m (number (m .sizes) q) ≡ faulty m q
 faulty-place m q i = ap (faulty m) (place-of (m .sizes) q i)
 
+-- a neighbour blocks by itself, in the map that a state tells, if its own byte is 1
+pub wall-in : (S : Sizes) (s : List ℕ) (p : Place) (j : ℕ) (q : Place) → Inside S q → wall (mapIn S s) p j q ≡ eqb (own s (number S q)) 1
+unfolding wall
+wall-in S s p j q i = sym (faulty-place (mapIn S s) q i) ∙ faulty-in S s (number S q) (number-lt S q i)
+
 -- ---- pairs
 
 -- k and the neighbour in direction j, when they talk
