@@ -10,8 +10,8 @@ use lib.Dec.{T}
 use Rattle.mesh.specs.Mesh.{nodes}
 use Rattle.mesh.specs.Cells.{Map}
 use Rattle.mesh.specs.declared.Sizes.{Sizes}
-use Rattle.field.specs.State.{pair, says}
-use Rattle.field.specs.Rounds.{Call, hearing, run, keeps, stretch, Told, FullRound, FullRounds, none, more}
+use Rattle.field.specs.State.{pair}
+use Rattle.field.specs.Rounds.{Call, hearing, run, held, keeps, stretch, Told, FullRound, FullRounds, none, more}
 use Rattle.field.proofs.State.{pair-talks, dir-lt-six}
 
 -- one more call keeps a stretch a stretch
@@ -24,7 +24,7 @@ stretch-more (Call.making cells ∷ a) k j w t = absurd t
 module _ (S : Sizes) (o : ℕ) (s : List ℕ) where
   -- the call for node i / 6 and direction i % 6, after the calls a
   call : List Call → ℕ → Call
-  call a i = hearing (i / 6) (i % 6) (says S (run S o s a) (i / 6) (i % 6))
+  call a i = hearing (i / 6) (i % 6) (held S o s a (i / 6) (i % 6))
 
   sweep : ℕ → List Call
   sweep zero = []
@@ -33,7 +33,7 @@ module _ (S : Sizes) (o : ℕ) (s : List ℕ) where
   sweep-kept : (n : ℕ) → T (stretch (sweep n))
   unfolding sweep call
   sweep-kept zero = tt
-  sweep-kept (suc n) = stretch-more (sweep n) (n / 6) (n % 6) (says S (run S o s (sweep n)) (n / 6) (n % 6)) (sweep-kept n)
+  sweep-kept (suc n) = stretch-more (sweep n) (n / 6) (n % 6) (held S o s (sweep n) (n / 6) (n % 6)) (sweep-kept n)
 
   sweep-has : (n i : ℕ) → i < n → (a b c : List Call) × (sweep n ≡ a ++ b ++ call a i ∷ c)
   unfolding sweep

@@ -21,7 +21,7 @@ use Rattle.field.specs.State.{own, heard, worksNode, pair, says}
 use Rattle.field.specs.Sound.{_⊆_, SoundOn}
 use Rattle.field.specs.Hear.{news, outstandingOn}
 use Rattle.field.specs.Rounds.{Call, run, FullRound, FullRounds, none, more}
-use Rattle.field.specs.Promise.{workers}
+use Rattle.field.specs.Promise.{workers, enoughRounds}
 use Rattle.field.proofs.State.{pair-talks, speaker-lt, speaker-works}
 use Rattle.field.proofs.Same.{works-word}
 use Rattle.field.proofs.Later.{Grown, grown-refl, grown-trans, run-grown, round-hears}
@@ -118,7 +118,7 @@ module _ (m : Map) (o : ℕ) where
           ]
         ]
 
-    pub rounds-settle : (s t : List ℕ) (n : ℕ) → SoundOn m o s → 2 * workers m + 1 ≤ n → FullRounds m o t n s → outstandingOn m t ≡ 0
+    pub rounds-settle : (s t : List ℕ) (n : ℕ) → SoundOn m o s → enoughRounds m ≤ n → FullRounds m o t n s → outstandingOn m t ≡ 0
     rounds-settle s t n z l r = all-heard t (rounds-grown t z r .sound) (elim (rounds t z r) [
       | inl h ↦ h
       | inr h ↦ absurd (omega (arith, marks-le t))

@@ -20,7 +20,7 @@ use Rattle.mesh.proofs.Bytes.{word-not-one}
 use Rattle.mesh.proofs.ByteRule.{ruled-word}
 use Rattle.field.specs.State.{own, heard, mapIn, faultyNode, worksNode, StateOf, pair, says}
 use Rattle.field.specs.Sound.{faultyHears, SoundOn, Sound}
-use Rattle.field.specs.Hear.{news, outstandingOn, outstanding}
+use Rattle.field.specs.Hear.{differs, outstandingOn, outstanding}
 use Rattle.field.proofs.State.{faulty-same, faulty-place, Talks, pair-talks, talks-pair, speaker-in}
 
 -- the same sizes, and the same faulty nodes
@@ -52,7 +52,7 @@ module _ (S : Sizes) (c d : List ℕ) (e : Alike S c d) where
 
   pub outstanding-same : (s : List ℕ) → outstandingOn (mapOf S c) s ≡ outstandingOn (mapOf S d) s
   unfolding outstandingOn
-  outstanding-same s = ap (λ (t : ℕ → ℕ → Bool). sum (nodes S) λ k. count 6 λ j. t k j && not (eqb (says S s k j) (heard s k j))) (fun-ext λ k. fun-ext (pair-same k))
+  outstanding-same s = ap (λ (t : ℕ → ℕ → Bool). sum (nodes S) λ k. count 6 λ j. t k j && differs S s k j) (fun-ext λ k. fun-ext (pair-same k))
 
   pub sound-same : (o : ℕ) (s : List ℕ) → SoundOn (mapOf S c) o s → SoundOn (mapOf S d) o s
   unfolding faultyHears

@@ -9,7 +9,7 @@ use Rattle.mesh.specs.Mesh.{nodes}
 use Rattle.mesh.specs.Cells.{Map}
 use Rattle.mesh.specs.Marks.{has, byteOf, ruleByte}
 use Rattle.mesh.specs.declared.Sizes.{Sizes}
-use Rattle.field.specs.State.{own, heard, mapIn, pair, says}
+use Rattle.field.specs.State.{heard, mapIn, pair, says}
 
 -- the byte with the marks of b and of the word w: "A late word never takes a mark away."
 unfoldable pub addMarks : ℕ → ℕ → ℕ
@@ -26,8 +26,11 @@ unfoldable pub changed : Sizes → ℕ → ℕ → ℕ → ℕ → List ℕ → 
 changed S o k j w s = ruledAt S o k (added k j w s)
 
 -- "Outstanding: the number of ordered pairs of a working listener and a working neighbour whose own byte differs from the word heard."
+abbrev pub differs : Sizes → List ℕ → ℕ → ℕ → Bool
+differs S s k j = not (eqb (says S s k j) (heard s k j))
+
 abbrev pub news : Map → List ℕ → ℕ → ℕ → Bool
-news m s k j = pair m k j && not (eqb (says (m .sizes) s k j) (heard s k j))
+news m s k j = pair m k j && differs (m .sizes) s k j
 
 unfoldable pub outstandingOn : Map → List ℕ → ℕ
 outstandingOn m s = sum (nodes (m .sizes)) λ k. count 6 (news m s k)

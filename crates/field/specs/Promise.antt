@@ -24,6 +24,10 @@ use Rattle.field.specs.Rounds.{Later, FullRounds}
 abbrev pub workers : Map → ℕ
 workers m = count (nodes (m .sizes)) (worksNode m)
 
+-- the full rounds that settle: 2 × W + 1
+abbrev pub enoughRounds : Map → ℕ
+enoughRounds m = 2 * workers m + 1
+
 module _ (m : Map) (o : ℕ) where
   abbrev S : Sizes
   S = m .sizes
@@ -48,7 +52,7 @@ module _ (m : Map) (o : ℕ) where
     -- settled, each node's own byte is the mark byte of the rules;
     pub settled : (t : List ℕ) → Later S o s t → Settled t → (k : ℕ) → k < nodes S → own t k ≡ markAt m o (placeOf S k)
     -- 2 × W + 1 full rounds settle it, or more; and there are full rounds, as many as one likes.
-    pub settles : (t : List ℕ) (n : ℕ) → 2 * workers m + 1 ≤ n → FullRounds m o t n s → Settled t
+    pub settles : (t : List ℕ) (n : ℕ) → enoughRounds m ≤ n → FullRounds m o t n s → Settled t
     pub rounds : (n : ℕ) → (t : List ℕ) × FullRounds m o t n s
 
   -- The fresh state of a map is a sound state of it, in which nodes know only failed neighbours: every word heard is 0, and a working node

@@ -42,12 +42,16 @@ pub record Later (S : Sizes) (o : ℕ) (s t : List ℕ) : Type 0 where
   pub kept : T (stretch calls)
   pub ends : t ≡ run S o s calls
 
+-- the word that k's neighbour in direction j held after the calls of the round so far
+abbrev pub held : Sizes → ℕ → List ℕ → List Call → ℕ → ℕ → ℕ
+held S o s sofar k j = says S (run S o s sofar) k j
+
 -- In the calls cs from s on, k hears from direction j "a word .. that the speaker held at some moment since the round began".
 pub record Told (S : Sizes) (o : ℕ) (s : List ℕ) (cs : List Call) (k j : ℕ) : Type 0 where
   pub before : List Call
   pub between : List Call
   pub since : List Call
-  pub parts : cs ≡ before ++ between ++ hearing k j (says S (run S o s before) k j) ∷ since
+  pub parts : cs ≡ before ++ between ++ hearing k j (held S o s before k j) ∷ since
 
 -- "A full round is a stretch of calls .. in which, for each such pair, a word is heard": cs, from the state s on
 pub record FullRound (m : Map) (o : ℕ) (s : List ℕ) (cs : List Call) : Type 0 where
