@@ -1,28 +1,27 @@
 -- When a call on a state is granted, and what it then does. Assumes nothing.
-use mathlib.Core.Path.{_≡_, refl, sym, ap, _∙_, subst}
+use mathlib.Core.Path.{_≡_, refl, sym, _∙_}
 use mathlib.Core.Logic.{_↔_, _≢_, _⊎_, inl, inr}
-use mathlib.Core.Bool.{Bool, true, false, cond}
+use mathlib.Core.Bool.{Bool, true, false}
 use mathlib.Core.List.{List}
 use Prim.Native.Nat.{ℕ, _+_, _*_, _<_, _≤_}
 use native.Mathlib.Omega.{arith}
 use native.Mathlib.Decide.{ℕ-discrete}
-use lib.Dec.{T, eqb, leb, ltb}
+use lib.Dec.{T}
 use lib.ListN.{getD, length}
 use Rattle.mesh.specs.Mesh.{inRange, nodes}
 use Rattle.mesh.specs.Cells.{Map, stateLength}
 use Rattle.mesh.specs.Marks.{isWord, ruleByte}
-use Rattle.mesh.specs.Answers.{granted, numbered, _andThen_, unless, checkSizes, checkMap, checkOrientation, checkNode, checkDirection}
+use Rattle.mesh.specs.Answers.{granted, _andThen_, unless, checkMap}
 use Rattle.mesh.specs.declared.Sizes.{Sizes}
 use Rattle.mesh.specs.declared.Refusal.{Refusal}
-use Rattle.mesh.specs.declared.Refusal.the-variants.{BadLength, BadNumber, Unsound, NoPair, NotHeld}
 use Rattle.mesh.specs.declared.Answer.{Answer}
 use Rattle.mesh.specs.declared.Answer.the-variants.{Done, Refused}
-use Rattle.mesh.specs.declared.Numbered.the-variants.{Number, NotNumbered}
+use Rattle.mesh.specs.declared.Numbered.the-variants.{Number}
 use Rattle.mesh.proofs.Tests.{T-eq, T-le}
-use Rattle.field.specs.State.{own, heard, mapIn, pair, says}
-use Rattle.field.specs.Sound.{_⊆_, within, sound, Sound, SoundOn}
-use Rattle.field.specs.Hear.{addMarks, changed, outstanding, outstandingOn}
-use Rattle.field.specs.Entries.{checkState, checkWord, freshAnswer, soundAnswer, outstandingAnswer, hearAnswer, hearOut}
+use Rattle.field.specs.State.{own, heard, SameAt, mapIn, pair, says}
+use Rattle.field.specs.Sound.{_noMoreThan_, Sound, SoundOn}
+use Rattle.field.specs.Hear.{addMarks, changed, outstandingOn}
+use Rattle.field.specs.Entries.{checkState, freshAnswer, soundAnswer, outstandingAnswer, hearAnswer, hearOut}
 use Rattle.field.proofs.Decide.{within-iff, sound-iff}
 use Rattle.field.proofs.Same.{on-sound, pair-in, outstanding-in}
 use Rattle.field.proofs.Rule.{ruled-same}
@@ -52,7 +51,7 @@ sound-passed S o s = simp (soundAnswer, state-passed, both, passed, T-le, sound-
 
 pub hear-passed : (S : Sizes) (o k j w : ℕ) (s : List ℕ) → (hearAnswer S o k j w s ≡ Done)
     ↔ ((((((((T (inRange S) × (length s ≡ stateLength S)) × (o ≤ 7)) × (k < nodes S)) × (j ≤ 5)) × T (isWord w)) × Sound S o s) × T (pair (mapIn S s) k j))
-    × (w ⊆ says S s k j))
+    × (w noMoreThan says S s k j))
 unfolding hearAnswer
 hear-passed S o k j w s = simp (hearAnswer, state-passed, both, passed, T-le, sound-iff, within-iff) (λ x. x, λ x. x)
 
@@ -69,9 +68,9 @@ granted-or-not S o k j w s = go (hearAnswer S o k j w s)
 pub alone : (S : Sizes) (o k j w : ℕ) (s : List ℕ) (i : ℕ) → i ≢ 7 * k → i ≢ 7 * k + 1 + j → getD (hearOut S o k j w s) i 0 ≡ getD s i 0
 alone S o k j w s i n h = elim (granted-or-not S o k j w s) [ inl e ↦ rw (e .1) (others-kept S o s k j w i n h) | inr e ↦ rw e ]
 
--- granted at two states in which the listener has heard the same, a word leaves the same seven bytes
-pub itself : (S : Sizes) (o k j w : ℕ) (s t : List ℕ) → hearAnswer S o k j w s ≡ Done → hearAnswer S o k j w t ≡ Done → ((i : ℕ) → i < 6 → heard s k i ≡ heard t k i)
-    → (own (hearOut S o k j w s) k ≡ own (hearOut S o k j w t) k) × ((i : ℕ) → i < 6 → heard (hearOut S o k j w s) k i ≡ heard (hearOut S o k j w t) k i)
+-- granted at two states in which the listener holds the same seven bytes, a word leaves it the same seven
+pub itself : (S : Sizes) (o k j w : ℕ) (s t : List ℕ) → hearAnswer S o k j w s ≡ Done → hearAnswer S o k j w t ≡ Done
+    → SameAt k s t → SameAt k (hearOut S o k j w s) (hearOut S o k j w t)
 itself S o k j w s t a b e = rw (a, b) (own-same, heard-same)
   where
     fits : (u : List ℕ) → hearAnswer S o k j w u ≡ Done → (length u ≡ stateLength S) × (k < nodes S) × (j < 6)
@@ -85,24 +84,26 @@ itself S o k j w s t a b e = rw (a, b) (own-same, heard-same)
 
     heard-same : (i : ℕ) → i < 6 → heard (changed S o k j w s) k i ≡ heard (changed S o k j w t) k i
     heard-same i h = elim (ℕ-discrete i j) [
-      | yes f ↦ rw (f, new s a, new t b, e j (fits s a .2))
+      | yes f ↦ rw (f, new s a, new t b, e .1 j (fits s a .2))
       | no n ↦
           others-kept S o s k j w (7 * k + 1 + i) (omega arith) (omega arith)
-          ∙ e i h
+          ∙ e .1 i h
           ∙ sym (others-kept S o t k j w (7 * k + 1 + i) (omega arith) (omega arith))
     ]
 
     own-same : own (changed S o k j w s) k ≡ own (changed S o k j w t) k
     own-same = rules s a ∙ ruled-same S o (heard (changed S o k j w s) k) (heard (changed S o k j w t) k) heard-same ∙ sym (rules t b)
 
-module _ (m : Map) (o : ℕ) (fit : T (inRange (m .sizes))) (turn : o ≤ 7) (s : List ℕ) (z : SoundOn m o s) where
+module _ (m : Map) (o : ℕ) (fit : T (inRange (m .sizes))) (o-le : o ≤ 7) (s : List ℕ) (z : SoundOn m o s) where
   -- a word that the speaker holds is granted
-  pub grants : (k j w : ℕ) → k < nodes (m .sizes) → j < 6 → T (pair m k j) → T (isWord w) → w ⊆ says (m .sizes) s k j
+  pub grants : (k j w : ℕ) → k < nodes (m .sizes) → j < 6 → T (pair m k j) → T (isWord w) → w noMoreThan says (m .sizes) s k j
       → hearOut (m .sizes) o k j w s ≡ changed (m .sizes) o k j w s
-  grants k j w l h t v f = rw (hear-passed (m .sizes) o k j w s .1 ((((((((fit, z .long), turn), l), omega arith), v), on-sound m o s z), rw (pair-in m o s z k j) t), f))
+  grants k j w l h t v f =
+      let q : T (pair (mapIn (m .sizes) s) k j) = rw (pair-in m o s z k j) t in
+      rw (hear-passed (m .sizes) o k j w s .1 ((((((((fit, z .long), o-le), l), omega arith), v), on-sound m o s z), q), f))
 
   -- and only such a word
-  pub hears : (k j w : ℕ) → (T (pair m k j) × (w ⊆ says (m .sizes) s k j) × (hearOut (m .sizes) o k j w s ≡ changed (m .sizes) o k j w s))
+  pub hears : (k j w : ℕ) → (T (pair m k j) × (w noMoreThan says (m .sizes) s k j) × (hearOut (m .sizes) o k j w s ≡ changed (m .sizes) o k j w s))
       ⊎ (hearOut (m .sizes) o k j w s ≡ s)
   hears k j w = elim (granted-or-not (m .sizes) o k j w s) [
     | inl e ↦ let (q, f) = hear-passed (m .sizes) o k j w s .0 (e .0) in inl (rw (pair-in m o s z k j) at (q .1), f, e .1)
@@ -112,4 +113,4 @@ module _ (m : Map) (o : ℕ) (fit : T (inRange (m .sizes))) (turn : o ≤ 7) (s 
   -- the number outstanding is exact
   pub counts : outstandingAnswer (m .sizes) o s ≡ Number (outstandingOn m s)
   unfolding outstandingAnswer
-  counts = rw (sound-passed (m .sizes) o s .1 (((fit, z .long), turn), on-sound m o s z), outstanding-in m o s z)
+  counts = rw (sound-passed (m .sizes) o s .1 (((fit, z .long), o-le), on-sound m o s z), outstanding-in m o s z)

@@ -1,16 +1,16 @@
 -- A sound state holds no mark that the rules do not give, and with no word outstanding it holds the mark bytes of the rules. Assumes nothing.
 use mathlib.Core.Path.{_≡_, refl, sym, ap, _∙_, subst}
-use mathlib.Core.Logic.{_↔_, _⊎_, inl, inr}
-use mathlib.Core.Bool.{Bool, true, false, not, cond, _&&_, _||_}
+use mathlib.Core.Logic.{_⊎_, inl, inr}
+use mathlib.Core.Bool.{Bool, true, false, not, _&&_}
 use mathlib.Core.List.{List}
-use Prim.Native.Nat.{ℕ, _+_, _*_, _<_}
+use Prim.Native.Nat.{ℕ, _<_}
 use native.Mathlib.Omega.{arith}
 use lib.Dec.{T, eqb, eqb→eq}
-use Rattle.mesh.specs.Tools.{bit, sum, count}
+use Rattle.mesh.specs.Tools.{bit, sum}
 use Rattle.mesh.specs.Mesh.{nodes, number, placeOf, Inside}
 use Rattle.mesh.specs.Steps.{next, neighbour}
-use Rattle.mesh.specs.Cells.{Map, faulty, works, wall}
-use Rattle.mesh.specs.Marks.{Kind, useless, cantReach, heading, holds, has, isWord, rule, blocks, marked, markAt, byteBlocks, ruleByte, readBy, readAt}
+use Rattle.mesh.specs.Cells.{Map, works, wall}
+use Rattle.mesh.specs.Marks.{Kind, heading, holds, has, isWord, rule, blocks, marked, markAt, byteBlocks, ruleByte, readBy, readAt}
 use Rattle.mesh.specs.declared.Sizes.{Sizes}
 use Rattle.mesh.specs.declared.Place.{Place}
 use Rattle.mesh.specs.declared.Next.{Next}
@@ -22,7 +22,7 @@ use Rattle.mesh.proofs.Stuck.{greatest}
 use Rattle.mesh.proofs.Bytes.{has-byte, one-none, mark-faulty}
 use Rattle.mesh.proofs.ByteRule.{byte-rule, bytes-unique}
 use Rattle.field.specs.State.{own, heard, faultyNode, worksNode, pair, says}
-use Rattle.field.specs.Sound.{_⊆_, SoundOn}
+use Rattle.field.specs.Sound.{_noMoreThan_, SoundOn}
 use Rattle.field.specs.Hear.{news, outstandingOn}
 use Rattle.field.proofs.State.{faulty-place, Talks, pair-talks, talks-pair, dir-lt-six, speaker-is, speaker-lt, speaker-works}
 use Rattle.field.proofs.Same.{works-word}
@@ -71,10 +71,13 @@ module _ (m : Map) (o : ℕ) (s : List ℕ) (z : SoundOn m o s) where
         rw (speaker-is m k j t) at (works-word m o s z (neighbour S k j) (speaker-lt m k j t) (speaker-works m k j t))
 
     -- its own byte holds no mark that its neighbours' own bytes do not give it
-    within-read : own s k ⊆ ruleByte S o (readAt m bytes (p k))
+    within-read : own s k noMoreThan ruleByte S o (readAt m bytes (p k))
     within-read = rw (z .ruled k l w) (ruled-grows S o (heard s k) (readAt m bytes (p k)) λ j h a x. elim (reads k j l w h) [
       | inl e ↦ subst (λ (b : ℕ). T (byteBlocks b a)) e x
-      | inr r ↦ let (t, e) = r in subst (λ (b : ℕ). T (byteBlocks b a)) (sym e) (word-blocks (heard s k j) (says S s k j) (z .words k j t .0) (z .words k j t .1) a x)
+      | inr r ↦
+          let (t, e) = r in
+          let (word, held) = z .words k j t in
+          subst (λ (b : ℕ). T (byteBlocks b a)) (sym e) (word-blocks (heard s k j) (says S s k j) word held a x)
     ])
 
     near-marked : (a : Kind) → T (has (own s k) a) → T (marked m (heading o a) (λ q. has (bytes q) a) (p k))

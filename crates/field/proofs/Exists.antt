@@ -1,7 +1,6 @@
--- Full rounds exist: each listener in turn hears from each direction what the speaker holds then. Assumes nothing.
-use mathlib.Core.Path.{_≡_, refl, ap, _∙_}
-use mathlib.Core.Logic.{_⊎_, inl, inr}
-use mathlib.Core.Bool.{Bool, true, false}
+-- Full rounds exist: each listener in o-le hears from each direction what the speaker holds then. Assumes nothing.
+use mathlib.Core.Path.{_≡_, ap, _∙_}
+use mathlib.Core.Logic.{inl, inr}
 use mathlib.Core.List.{List, [], _∷_, _++_, append-assoc, append-nil}
 use Prim.Native.Nat.{ℕ, zero, suc, _+_, _*_, _/_, _%_, _<_}
 use native.Mathlib.Omega.{arith}
@@ -10,8 +9,7 @@ use lib.Dec.{T}
 use Rattle.mesh.specs.Mesh.{nodes}
 use Rattle.mesh.specs.Cells.{Map}
 use Rattle.mesh.specs.declared.Sizes.{Sizes}
-use Rattle.field.specs.State.{pair}
-use Rattle.field.specs.Rounds.{Call, hearing, run, held, keeps, stretch, Told, FullRound, FullRounds, none, more}
+use Rattle.field.specs.Rounds.{Call, hearing, run, held, stretch, Told, FullRound, FullRounds, none, more}
 use Rattle.field.proofs.State.{pair-talks, dir-lt-six}
 
 -- one more call keeps a stretch a stretch
@@ -42,7 +40,8 @@ module _ (S : Sizes) (o : ℕ) (s : List ℕ) where
     | inl e ↦ (sweep n, [], [], rw (e, append-nil))
     | inr l ↦
         let (a, b, c, e) = sweep-has n i l in
-        (a, b, c ++ call (sweep n) n ∷ [], ap (λ (x : List Call). x ++ call (sweep n) n ∷ []) e ∙ append-assoc (a ++ b) (call a i ∷ c) (call (sweep n) n ∷ []))
+        let last : List Call = call (sweep n) n ∷ [] in
+        (a, b, c ++ last, ap (λ (x : List Call). x ++ last) e ∙ append-assoc (a ++ b) (call a i ∷ c) last)
   ]
 
   told-at : (n i : ℕ) → i < n → Told S o s (sweep n) (i / 6) (i % 6)

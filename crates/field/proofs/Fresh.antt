@@ -1,17 +1,14 @@
 -- The fresh state of a map is a sound state of it, in which nodes know only failed neighbours. Assumes nothing.
-use mathlib.Core.Path.{_≡_, refl, sym, ap, ap₂, _∙_, fun-ext, subst}
-use mathlib.Core.Bool.{Bool, true, false, not, cond, _&&_}
+use mathlib.Core.Path.{_≡_, sym, ap, ap₂, _∙_, fun-ext}
+use mathlib.Core.Bool.{Bool, false, _&&_}
 use mathlib.Core.List.{List}
-use Prim.Native.Nat.{ℕ, zero, suc, _+_, _*_, _/_, _%_, _<_}
+use Prim.Native.Nat.{ℕ, suc, _+_, _*_, _/_, _%_, _<_}
 use native.Mathlib.Omega.{arith}
-use lib.Dec.{T, eqb}
-use lib.ListN.{getD, length}
-use Rattle.mesh.specs.Tools.{table}
+use lib.Dec.{T}
 use Rattle.mesh.specs.Mesh.{nodes, placeOf}
 use Rattle.mesh.specs.Steps.{next}
 use Rattle.mesh.specs.Cells.{Map, works, wall, stateLength}
-use Rattle.mesh.specs.Marks.{Kind, useless, cantReach, heading, has, byteOf, isWord, rule, blocks, marked, stuckWithin, ruleByte, readBy, readAt}
-use Rattle.mesh.specs.declared.Sizes.{Sizes}
+use Rattle.mesh.specs.Marks.{useless, cantReach, heading, has, byteOf, isWord, rule, blocks, marked, stuckWithin, ruleByte, readBy, readAt}
 use Rattle.mesh.specs.declared.Place.{Place}
 use Rattle.mesh.specs.declared.Next.{Next}
 use Rattle.mesh.specs.declared.Next.the-variants.{At, Edge}
@@ -19,14 +16,14 @@ use Rattle.mesh.proofs.Tests.{cond-true, cond-false, holds-true}
 use Rattle.mesh.proofs.Tables.{length-table, getD-table}
 use Rattle.mesh.proofs.Steps.{dir-led}
 use Rattle.mesh.proofs.ByteRule.{byte-rule}
-use Rattle.field.specs.State.{own, heard, faultyNode, worksNode, StateOf, pair, says}
-use Rattle.field.specs.Sound.{_⊆_, faultyHears, SoundOn, Sound, freshHeard, freshOwn, freshByte, fresh}
+use Rattle.field.specs.State.{own, heard, faultyNode, worksNode, pair, says}
+use Rattle.field.specs.Sound.{_noMoreThan_, faultyHears, SoundOn, freshHeard, freshOwn, freshByte, fresh}
 use Rattle.field.specs.Promise.{FreshPromise}
-use Rattle.field.proofs.State.{Talks, pair-talks, dir-lt-six}
+use Rattle.field.proofs.State.{pair-talks, dir-lt-six}
 use Rattle.field.proofs.Rule.{ruled-same}
 use Rattle.field.proofs.Same.{on-state, on-sound}
 
-none-within : (b : ℕ) → 0 ⊆ b
+none-within : (b : ℕ) → 0 noMoreThan b
 unfolding has
 none-within b useless t = absurd t
 none-within b cantReach t = absurd t

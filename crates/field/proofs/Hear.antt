@@ -1,26 +1,24 @@
 -- A word heard: which bytes change, that marks are only added, and that the state stays sound. Assumes nothing.
-use mathlib.Core.Path.{_≡_, refl, sym, ap, _∙_, subst}
+use mathlib.Core.Path.{_≡_, sym, _∙_}
 use mathlib.Core.Logic.{_↔_, _≢_, _⊎_, inl, inr}
-use mathlib.Core.Bool.{Bool, true, false, not, _||_}
+use mathlib.Core.Bool.{_||_}
 use mathlib.Core.List.{List}
-use Prim.Native.Nat.{ℕ, zero, suc, _+_, _*_, _<_, _≤_}
+use Prim.Native.Nat.{ℕ, _+_, _*_, _<_}
 use native.Mathlib.Omega.{arith}
 use native.Mathlib.Decide.{ℕ-discrete}
-use lib.Dec.{T, T-not, eqb}
-use lib.ListN.{getD, length, set, length-set}
+use lib.Dec.{T}
+use lib.ListN.{getD, length, length-set}
 use lib.Seq.{getD-set-same, getD-set-other}
 use Rattle.mesh.specs.Mesh.{nodes, placeOf}
-use Rattle.mesh.specs.Steps.{next, neighbour}
-use Rattle.mesh.specs.Cells.{Map, faulty, wall, stateLength}
-use Rattle.mesh.specs.Marks.{Kind, has, byteOf, isWord, ruleByte}
+use Rattle.mesh.specs.Steps.{neighbour}
+use Rattle.mesh.specs.Cells.{Map, stateLength}
+use Rattle.mesh.specs.Marks.{Kind, has, isWord, ruleByte}
 use Rattle.mesh.specs.declared.Sizes.{Sizes}
-use Rattle.mesh.specs.declared.Place.{Place}
-use Rattle.mesh.specs.declared.Next.the-variants.{At, Edge}
 use Rattle.mesh.proofs.Tests.{T-or, T-no}
 use Rattle.mesh.proofs.Steps.{dir-led}
 use Rattle.mesh.proofs.Bytes.{has-byte, byte-word}
-use Rattle.field.specs.State.{own, heard, faultyNode, worksNode, pair, says}
-use Rattle.field.specs.Sound.{_⊆_, faultyHears, SoundOn}
+use Rattle.field.specs.State.{own, heard, faultyNode, pair, says}
+use Rattle.field.specs.Sound.{_noMoreThan_, SoundOn}
 use Rattle.field.specs.Hear.{addMarks, added, ruledAt, changed}
 use Rattle.field.proofs.State.{Talks, pair-talks, dir-lt-six, pair-edge, pair-wall}
 use Rattle.field.proofs.Rule.{word-blocks, ruled-same, ruled-grows}
@@ -78,7 +76,7 @@ module _ (S : Sizes) (o : ℕ) (s : List ℕ) (l j w : ℕ) (long : length s ≡
 
 -- ---- marks are only added, and the state stays sound
 
-module _ (m : Map) (o : ℕ) (s : List ℕ) (z : SoundOn m o s) (l j w : ℕ) (pr : T (pair m l j)) (held : w ⊆ says (m .sizes) s l j) where
+module _ (m : Map) (o : ℕ) (s : List ℕ) (z : SoundOn m o s) (l j w : ℕ) (pr : T (pair m l j)) (held : w noMoreThan says (m .sizes) s l j) where
   abbrev r : Talks m l j
   r = pair-talks m l j pr
 
@@ -100,22 +98,22 @@ module _ (m : Map) (o : ℕ) (s : List ℕ) (z : SoundOn m o s) (l j w : ℕ) (p
   new : own u l ≡ ruleByte S o (heard u l)
   new = own-new S o s l j w (z .long) (r .lt) (dir-lt-six m l j r)
 
-  pub heard-grows : (k i : ℕ) → i < 6 → heard s k i ⊆ heard u k i
+  pub heard-grows : (k i : ℕ) → i < 6 → heard s k i noMoreThan heard u k i
   heard-grows k i h a x = elim (cases k i h) [
     | inl e ↦ rw (e .0, e .1, hit) (added-marks (heard s l j) w a .1 (inl (rw (e .0, e .1) at x)))
     | inr e ↦ rw e x
   ]
 
-  pub heard-gets : w ⊆ heard u l j
+  pub heard-gets : w noMoreThan heard u l j
   heard-gets a x = rw hit (added-marks (heard s l j) w a .1 (inr x))
 
-  listener-grows : own s l ⊆ own u l
+  listener-grows : own s l noMoreThan own u l
   listener-grows = rw (new, z .ruled l (r .lt) (r .works-k)) (ruled-grows S o (heard s l) (heard u l) λ i h a x. elim (cases l i h) [
     | inl e ↦ word-blocks (heard s l i) (heard u l i) (rw (e .1) (z .words l j pr .0)) (heard-grows l i h) a x
     | inr e ↦ rw e x
   ])
 
-  pub own-grows : (k : ℕ) → own s k ⊆ own u k
+  pub own-grows : (k : ℕ) → own s k noMoreThan own u k
   own-grows k = elim (ℕ-discrete k l) [ yes e ↦ rw e listener-grows | no n ↦ rw (old k n) (λ a x. x) ]
 
   -- what is not heard over a link stays

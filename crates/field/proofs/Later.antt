@@ -1,21 +1,18 @@
 -- A stretch of calls keeps a state sound and takes no mark away; after a full round each listener has heard what the speaker held. Assumes nothing.
-use mathlib.Core.Path.{_≡_, refl, sym, ap, _∙_, subst}
-use mathlib.Core.Logic.{_⊎_, inl, inr}
-use mathlib.Core.Bool.{Bool, true, false, _&&_}
+use mathlib.Core.Path.{_≡_, refl}
+use mathlib.Core.Logic.{inl, inr}
 use mathlib.Core.List.{List, [], _∷_, _++_}
-use Prim.Native.Nat.{ℕ, _<_, _≤_}
+use Prim.Native.Nat.{ℕ, _≤_}
 use lib.Dec.{T}
-use Rattle.mesh.specs.Mesh.{inRange, nodes}
+use Rattle.mesh.specs.Mesh.{inRange}
 use Rattle.mesh.specs.Steps.{neighbour}
 use Rattle.mesh.specs.Cells.{Map}
-use Rattle.mesh.specs.Marks.{isWord}
 use Rattle.mesh.specs.declared.Sizes.{Sizes}
 use Rattle.mesh.proofs.Tests.{T-and}
 use Rattle.field.specs.State.{own, heard, pair, says}
-use Rattle.field.specs.Sound.{_⊆_, SoundOn}
-use Rattle.field.specs.Hear.{changed}
-use Rattle.field.specs.Rounds.{Call, hearing, asking, making, after, run, keeps, stretch, Told, FullRound}
-use Rattle.field.proofs.State.{Talks, pair-talks, dir-lt-six, speaker-lt, speaker-works}
+use Rattle.field.specs.Sound.{_noMoreThan_, SoundOn}
+use Rattle.field.specs.Rounds.{Call, hearing, asking, making, after, run, keeps, stretch, FullRound}
+use Rattle.field.proofs.State.{pair-talks, dir-lt-six, speaker-lt, speaker-works}
 use Rattle.field.proofs.Same.{works-word}
 use Rattle.field.proofs.Hear.{heard-grows, heard-gets, own-grows, changed-sound}
 use Rattle.field.proofs.Calls.{grants, hears}
@@ -23,8 +20,8 @@ use Rattle.field.proofs.Calls.{grants, hears}
 -- from s to t no mark was taken away, and t is sound on m
 pub record Grown (m : Map) (o : ℕ) (s t : List ℕ) : Type 0 where
   pub sound : SoundOn m o t
-  pub owns : (k : ℕ) → own s k ⊆ own t k
-  pub hears : (k j : ℕ) → T (pair m k j) → heard s k j ⊆ heard t k j
+  pub owns : (k : ℕ) → own s k noMoreThan own t k
+  pub hears : (k j : ℕ) → T (pair m k j) → heard s k j noMoreThan heard t k j
 
 stretch-split : (a b : List Call) → T (stretch (a ++ b)) → T (stretch a) × T (stretch b)
 stretch-split [] b t = (tt, t)
@@ -51,9 +48,9 @@ module _ (m : Map) (o : ℕ) where
     hears = λ k j r a x. q .hears k j r a (p .hears k j r a x);
   }
 
-  module _ (fit : T (inRange (m .sizes))) (turn : o ≤ 7) where
+  module _ (fit : T (inRange (m .sizes))) (o-le : o ≤ 7) where
     after-grown : (c : Call) → T (keeps c) → (s : List ℕ) → SoundOn m o s → Grown m o s (after S o s c)
-    after-grown (hearing k j w) q s z = elim (hears m o fit turn s z k j w) [
+    after-grown (hearing k j w) q s z = elim (hears m o fit o-le s z k j w) [
       | inl h ↦ let (t, f, e) = h in rw e (record {
         sound = changed-sound m o s z k j w t f;
         owns = own-grows m o s z k j w t f;
@@ -73,7 +70,7 @@ module _ (m : Map) (o : ℕ) where
 
     -- after a full round each listener has heard at least what the speaker held when the round began
     pub round-hears : (s : List ℕ) (cs : List Call) → SoundOn m o s → FullRound m o s cs
-        → (k j : ℕ) → T (pair m k j) → says S s k j ⊆ heard (run S o s cs) k j
+        → (k j : ℕ) → T (pair m k j) → says S s k j noMoreThan heard (run S o s cs) k j
     round-hears s cs z f k j t a x =
         let r = f .each k j t in
         let u = run S o s (r .before) in
@@ -88,7 +85,7 @@ module _ (m : Map) (o : ℕ) where
         let p = pair-talks m k j t in
         let n = neighbour S k j in
         let word = works-word m o u (gu .sound) n (speaker-lt m k j p) (speaker-works m k j p) in
-        let e = grants m o fit turn v (gv .sound) k j w (p .lt) (dir-lt-six m k j p) t word (gv .owns n) in
+        let e = grants m o fit o-le v (gv .sound) k j w (p .lt) (dir-lt-six m k j p) t word (gv .owns n) in
         rw
         (r .parts, run-append S o (r .before ++ r .between) (hearing k j w ∷ r .since) s, run-append S o (r .before) (r .between) s)
         (gd .hears k j t a (rw e (heard-gets m o v (gv .sound) k j w t (gv .owns n) a (gu .owns n a x))))

@@ -10,3 +10,4 @@ pub mod Exact
 pub mod Rounds
 pub mod Exists
 pub mod Promise
+pub mod Flat

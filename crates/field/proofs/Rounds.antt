@@ -1,24 +1,24 @@
 -- 2 × W + 1 full rounds settle the nodes: a round that adds no mark leaves no word unheard, and there are at most 2 × W marks to add. Assumes nothing.
-use mathlib.Core.Path.{_≡_, refl, sym, ap, _∙_, subst}
+use mathlib.Core.Path.{_≡_, refl}
 use mathlib.Core.Logic.{_⊎_, inl, inr}
 use mathlib.Core.Bool.{Bool, true, false, not, _&&_}
 use mathlib.Core.List.{List}
-use Prim.Native.Nat.{ℕ, zero, suc, _+_, _*_, _<_, _≤_}
+use Prim.Native.Nat.{ℕ, _+_, _*_, _<_, _≤_}
 use native.Mathlib.Omega.{arith}
 use native.Mathlib.Decide.{decLt}
 use lib.Dec.{T, eqb}
-use Rattle.mesh.specs.Tools.{bit, sum, count}
+use Rattle.mesh.specs.Tools.{bit, count}
 use Rattle.mesh.specs.Mesh.{inRange, nodes, placeOf}
 use Rattle.mesh.specs.Steps.{neighbour}
 use Rattle.mesh.specs.Cells.{Map}
-use Rattle.mesh.specs.Marks.{Kind, useless, cantReach, has, isWord}
+use Rattle.mesh.specs.Marks.{Kind, useless, cantReach, has}
 use Rattle.mesh.specs.declared.Sizes.{Sizes}
 use Rattle.mesh.proofs.Tests.{T-and, T-eq, bool-ext}
 use Rattle.mesh.proofs.Tables.{sum-zero, count-mono, count-tight}
 use Rattle.mesh.proofs.Numbers.{place-in}
 use Rattle.mesh.proofs.Bytes.{word-same, mark-has}
 use Rattle.field.specs.State.{own, heard, worksNode, pair, says}
-use Rattle.field.specs.Sound.{_⊆_, SoundOn}
+use Rattle.field.specs.Sound.{_noMoreThan_, SoundOn}
 use Rattle.field.specs.Hear.{news, outstandingOn}
 use Rattle.field.specs.Rounds.{Call, run, FullRound, FullRounds, none, more}
 use Rattle.field.specs.Promise.{workers, enoughRounds}
@@ -42,7 +42,7 @@ module _ (m : Map) (o : ℕ) where
 
   -- every mark that is to be heard is heard
   abbrev AllHeard : List ℕ → Type 0
-  AllHeard s = (k j : ℕ) → T (pair m k j) → says S s k j ⊆ heard s k j
+  AllHeard s = (k j : ℕ) → T (pair m k j) → says S s k j noMoreThan heard s k j
 
   pub all-heard : (s : List ℕ) → SoundOn m o s → AllHeard s → outstandingOn m s ≡ 0
   unfolding outstandingOn
@@ -77,7 +77,7 @@ module _ (m : Map) (o : ℕ) where
       omega (arith, le useless, le cantReach)
 
   -- calls that add no mark at all add none anywhere
-  marks-same : (s t : List ℕ) → Grown m o s t → marks t ≤ marks s → (k : ℕ) → k < nodes S → T (worksNode m k) → own t k ⊆ own s k
+  marks-same : (s t : List ℕ) → Grown m o s t → marks t ≤ marks s → (k : ℕ) → k < nodes S → T (worksNode m k) → own t k noMoreThan own s k
   unfolding marks
   marks-same s t g h k l w a x =
       let grow : (a : Kind) (k : ℕ) → k < nodes S → T (holder s a k) → T (holder t a k) = λ a k _ q.
@@ -91,25 +91,25 @@ module _ (m : Map) (o : ℕ) where
       T-and (worksNode m k) (has (own s k) a) .0
       (count-tight (nodes S) (holder s a) (holder t a) (grow a) (eq a) k l (T-and (worksNode m k) (has (own t k) a) .1 (w, x))) .1
 
-  module _ (fit : T (inRange (m .sizes))) (turn : o ≤ 7) where
+  module _ (fit : T (inRange (m .sizes))) (o-le : o ≤ 7) where
     -- a round that adds no mark leaves no word unheard
     round-settles : (s : List ℕ) (cs : List Call) → SoundOn m o s → FullRound m o s cs → marks (run S o s cs) ≤ marks s → AllHeard (run S o s cs)
     round-settles s cs z f h k j t a x =
         let r = pair-talks m k j t in
-        let g = run-grown m o fit turn cs (f .kept) s z in
-        round-hears m o fit turn s cs z f k j t a (marks-same s (run S o s cs) g h (neighbour S k j) (speaker-lt m k j r) (speaker-works m k j r) a x)
+        let g = run-grown m o fit o-le cs (f .kept) s z in
+        round-hears m o fit o-le s cs z f k j t a (marks-same s (run S o s cs) g h (neighbour S k j) (speaker-lt m k j r) (speaker-works m k j r) a x)
 
     pub rounds-grown : (t : List ℕ) {n : ℕ} {s : List ℕ} → SoundOn m o s → FullRounds m o t n s → Grown m o s t
     rounds-grown t {s = s} z none = grown-refl m o s z
     rounds-grown t {s = s} z (more cs f r) =
-        let g = run-grown m o fit turn cs (f .kept) s z in
+        let g = run-grown m o fit o-le cs (f .kept) s z in
         grown-trans m o s (run S o s cs) t g (rounds-grown t (g .sound) r)
 
     rounds : (t : List ℕ) {n : ℕ} {s : List ℕ} → SoundOn m o s → FullRounds m o t n s → AllHeard t ⊎ (marks s + n ≤ marks t)
     rounds t z none = inr (omega arith)
     rounds t {s = s} z (more {n = n} cs f r) =
         let s′ = run S o s cs in
-        let g = run-grown m o fit turn cs (f .kept) s z in
+        let g = run-grown m o fit o-le cs (f .kept) s z in
         elim (rounds t (g .sound) r) [
           | inl h ↦ inl h
           | inr h ↦ elim (decLt (marks s) (marks s′)) [

@@ -1,27 +1,26 @@
--- Two maps with the same faulty nodes have the same sound states, pairs and outstanding words: a sound state of a map is sound on that map. Assumes nothing.
-use mathlib.Core.Path.{_≡_, refl, sym, ap, _∙_, subst, fun-ext}
-use mathlib.Core.Logic.{_↔_, _⊎_, inl, inr}
-use mathlib.Core.Bool.{Bool, true, false, not, _&&_}
+-- Two maps with the same faulty nodes have the same sound states, pairs and outstanding words. So the sound states of a map are those that
+-- are sound on it. Assumes nothing.
+use mathlib.Core.Path.{_≡_, sym, ap, _∙_, subst, fun-ext}
+use mathlib.Core.Logic.{inl, inr}
+use mathlib.Core.Bool.{Bool, _&&_}
 use mathlib.Core.List.{List}
 use Prim.Native.Nat.{ℕ, _<_}
-use lib.Dec.{T, eqb}
+use lib.Dec.{T}
 use Rattle.mesh.specs.Tools.{sum, count}
 use Rattle.mesh.specs.Mesh.{nodes, number, placeOf, Inside}
-use Rattle.mesh.specs.Steps.{next}
-use Rattle.mesh.specs.Cells.{Map, mapOf, faulty, wall}
-use Rattle.mesh.specs.Marks.{isWord, ruleByte}
+use Rattle.mesh.specs.Cells.{Map, mapOf, wall}
+use Rattle.mesh.specs.Marks.{isWord}
 use Rattle.mesh.specs.declared.Sizes.{Sizes}
 use Rattle.mesh.specs.declared.Place.{Place}
-use Rattle.mesh.specs.declared.Next.the-variants.{At, Edge}
-use Rattle.mesh.proofs.Tests.{T-eq, T-no, tried, bool-ext}
+use Rattle.mesh.proofs.Tests.{T-eq, tried, bool-ext}
 use Rattle.mesh.proofs.Numbers.{number-lt, place-in}
 use Rattle.mesh.proofs.Steps.{next-in}
 use Rattle.mesh.proofs.Bytes.{word-not-one}
 use Rattle.mesh.proofs.ByteRule.{ruled-word}
-use Rattle.field.specs.State.{own, heard, mapIn, faultyNode, worksNode, StateOf, pair, says}
+use Rattle.field.specs.State.{own, heard, mapIn, faultyNode, worksNode, StateOf, pair}
 use Rattle.field.specs.Sound.{faultyHears, SoundOn, Sound}
 use Rattle.field.specs.Hear.{differs, outstandingOn, outstanding}
-use Rattle.field.proofs.State.{faulty-same, faulty-place, Talks, pair-talks, talks-pair, speaker-in}
+use Rattle.field.proofs.State.{faulty-same, faulty-place, pair-talks, talks-pair, speaker-in}
 
 -- the same sizes, and the same faulty nodes
 abbrev pub Alike : Sizes → List ℕ → List ℕ → Type 0
@@ -61,11 +60,13 @@ module _ (S : Sizes) (c d : List ℕ) (e : Alike S c d) where
     failed = λ k l f. z .failed k l (rw (e k l) f);
     ruled = λ k l w. z .ruled k l (rw (e k l) w);
     edge = λ k j l w. z .edge k j l (rw (e k l) w);
-    walled = λ k j q l w n b. z .walled k j q l (rw (e k l) w) n (rw (wall-same S c d e (placeOf S k) j q (next-in S (placeOf S k) q (place-in S k l) j n)) b);
+    walled = λ k j q l w n b.
+        let i = next-in S (placeOf S k) q (place-in S k l) j n in
+        z .walled k j q l (rw (e k l) w) n (rw (wall-same S c d e (placeOf S k) j q i) b);
     words = λ k j t. z .words k j (pair-to S d c back k j t);
   }
 
--- the sound states of a map are those that are sound on it
+-- a state that is sound on a map is a sound state of it, and back
 module _ (m : Map) (o : ℕ) (s : List ℕ) where
   pub works-word : SoundOn m o s → (k : ℕ) → k < nodes (m .sizes) → T (worksNode m k) → T (isWord (own s k))
   works-word z k l w = rw (z .ruled k l w) (ruled-word (m .sizes) o (heard s k))

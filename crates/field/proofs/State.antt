@@ -1,15 +1,13 @@
 -- The map that a state tells, and who talks to whom. Assumes nothing.
-use mathlib.Core.Path.{_≡_, refl, sym, ap, _∙_, subst}
-use mathlib.Core.Logic.{_↔_}
-use mathlib.Core.Bool.{Bool, true, false, not, _&&_}
+use mathlib.Core.Path.{_≡_, refl, sym, ap, _∙_}
+use mathlib.Core.Bool.{Bool, true, false, not}
 use mathlib.Core.List.{List}
 use Prim.Native.Nat.{ℕ, _<_}
-use lib.Dec.{T, eqb, ltb}
-use lib.ListN.{getD}
-use Rattle.mesh.specs.Tools.{bit, table}
+use lib.Dec.{T, eqb}
+use Rattle.mesh.specs.Tools.{bit}
 use Rattle.mesh.specs.Mesh.{nodes, number, placeOf, Inside}
 use Rattle.mesh.specs.Steps.{next, isAt, numberAt, neighbour}
-use Rattle.mesh.specs.Cells.{Map, mapOf, faultyCell, faulty, works, wall, linked}
+use Rattle.mesh.specs.Cells.{Map, faultyCell, faulty, wall, linked}
 use Rattle.mesh.specs.declared.Sizes.{Sizes}
 use Rattle.mesh.specs.declared.Place.{Place}
 use Rattle.mesh.specs.declared.Next.{Next}
@@ -88,7 +86,8 @@ module _ (m : Map) (k j : ℕ) where
   pub pair-talks : T (pair m k j) → Talks m k j
   unfolding pair wall linked
   pair-talks t =
-      let (((l, w), i), v) : (((k < nodes (m .sizes)) × T (worksNode m k)) × T (linked m p j)) × T (worksNode m (neighbour (m .sizes) k j)) = simp (pair, T-and, T-lt) at t in
+      let n : ℕ = neighbour (m .sizes) k j in
+      let (((l, w), i), v) : (((k < nodes (m .sizes)) × T (worksNode m k)) × T (linked m p j)) × T (worksNode m n) = simp (pair, T-and, T-lt) at t in
       let (q, e) = at-of (next (m .sizes) p j) i in
       let inn : Inside (m .sizes) q = next-in (m .sizes) p q (place-in (m .sizes) k l) j e in
       let f : neighbour (m .sizes) k j ≡ number (m .sizes) q = ap (numberAt (m .sizes)) e in

@@ -1,5 +1,4 @@
 -- The calls on a state: what each answers, and what its state then holds, for every input. Assumes nothing.
-use mathlib.Core.Bool.{Bool}
 use mathlib.Core.List.{List}
 use Prim.Native.Nat.{ℕ}
 use lib.Dec.{eqb}

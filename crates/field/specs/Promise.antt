@@ -1,6 +1,5 @@
 -- Demand 3: what the talking nodes promise, whatever calls come. `promise` and `fresh-promise` of proofs/ show that they keep it;
 -- what is still owed is code that does what Entries.antt says. Assumes nothing.
-use mathlib.Core.Bool.{Bool}
 use mathlib.Core.List.{List}
 use mathlib.Core.Logic.{_≢_}
 use mathlib.Core.Path.{_≡_}
@@ -14,8 +13,8 @@ use Rattle.mesh.specs.Marks.{Kind, has, heading, holds, byteOf, stuckWithin, ma
 use Rattle.mesh.specs.declared.Sizes.{Sizes}
 use Rattle.mesh.specs.declared.Answer.the-variants.{Done}
 use Rattle.mesh.specs.declared.Numbered.the-variants.{Number}
-use Rattle.field.specs.State.{own, heard, StateOf, worksNode, pair}
-use Rattle.field.specs.Sound.{_⊆_, Sound, fresh}
+use Rattle.field.specs.State.{own, heard, SameAt, StateOf, worksNode, pair}
+use Rattle.field.specs.Sound.{_noMoreThan_, Sound, fresh}
 use Rattle.field.specs.Hear.{outstandingOn}
 use Rattle.field.specs.Entries.{outstandingAnswer, hearAnswer, hearOut}
 use Rattle.field.specs.Rounds.{Later, FullRounds}
@@ -38,13 +37,13 @@ module _ (m : Map) (o : ℕ) where
 
   -- The promise of a map m, an orientation o, and a sound state s of that map.
   pub record Promise (s : List ℕ) : Type 0 where
-    -- a word heard changes two bytes of its listener alone, and they become what follows from the word and from what the listener itself has heard;
+    -- a word heard changes two bytes of its listener alone, and what the listener then holds follows from the word and its own seven bytes;
     pub alone : (k j w i : ℕ) → i ≢ 7 * k → i ≢ 7 * k + 1 + j → getD (hearOut S o k j w s) i 0 ≡ getD s i 0
-    pub itself : (k j w : ℕ) (t : List ℕ) → hearAnswer S o k j w s ≡ Done → hearAnswer S o k j w t ≡ Done → ((i : ℕ) → i < 6 → heard s k i ≡ heard t k i)
-        → (own (hearOut S o k j w s) k ≡ own (hearOut S o k j w t) k) × ((i : ℕ) → i < 6 → heard (hearOut S o k j w s) k i ≡ heard (hearOut S o k j w t) k i)
+    pub itself : (k j w : ℕ) (t : List ℕ) → hearAnswer S o k j w s ≡ Done → hearAnswer S o k j w t ≡ Done
+        → SameAt k s t → SameAt k (hearOut S o k j w s) (hearOut S o k j w t)
     -- whatever calls come, the state stays sound, and a state of the map, and no mark is taken away;
     pub sound : (t : List ℕ) → Later S o s t → Sound S o t × StateOf m t
-    pub kept : (t : List ℕ) → Later S o s t → (k : ℕ) → k < nodes S → own s k ⊆ own t k
+    pub kept : (t : List ℕ) → Later S o s t → (k : ℕ) → k < nodes S → own s k noMoreThan own t k
     -- no node holds a mark that the rules do not give it;
     pub no-more : (t : List ℕ) → Later S o s t → (k : ℕ) → k < nodes S → (a : Kind) → T (has (own t k) a) → T (holds m o (placeOf S k) a)
     -- the number outstanding is exact;
