@@ -11,3 +11,4 @@ pub mod Rounds
 pub mod Exists
 pub mod Promise
 pub mod Flat
+pub mod Impostors
