@@ -30,14 +30,23 @@ impl Tally {
         }
     }
 
-    /// A comparison that asks too little fails too: exactly so many granted cases, and some of each refusal that the call has.
-    pub fn expect(&self, granted: u64, refusals: &[u32]) {
-        let got = self.agreed.get(&0).copied().unwrap_or(0);
-        let seen: Vec<u32> = self.agreed.keys().copied().filter(|r| *r != 0).collect();
-        if got != granted || seen != refusals {
-            println!("TOO LITTLE ASKED: {self}: expected {granted} granted, and refusals {refusals:?}");
-            std::process::exit(1);
+    /// A comparison that asks too little fails too: so many cases are to be granted,
+    pub fn expect_granted(&self, granted: u64) {
+        if self.agreed.get(&0).copied().unwrap_or(0) != granted {
+            self.too_little(&format!("{granted} granted"));
         }
+    }
+
+    /// and some refused by each of these numbers, and by no other.
+    pub fn expect_refused(&self, refusals: &[u32]) {
+        if !self.agreed.keys().filter(|r| **r != 0).eq(refusals) {
+            self.too_little(&format!("refusals {refusals:?}"));
+        }
+    }
+
+    fn too_little(&self, expected: &str) {
+        println!("TOO LITTLE ASKED: {self}: expected {expected}");
+        std::process::exit(1);
     }
 }
 

@@ -6,8 +6,8 @@
 pub mod answers;
 mod refusal;
 
-pub use refusal::Refusal;
 use refusal::granted;
+pub use refusal::Refusal;
 
 /// The sizes of a mesh. Any numbers may be asked: a call refuses those outside 2 to 16, 2 to 16 and 1 to 16.
 #[derive(Clone, Copy, Debug, PartialEq, Eq)]
