@@ -60,6 +60,10 @@ static void calls(void) {
 int main(void) {
     layout();
     calls();
-    printf("dukthari.h: %d checks held\n", held);
+#ifdef __cplusplus
+    printf("from C++: dukthari.h: %d checks held\n", held);
+#else
+    printf("from C: dukthari.h: %d checks held\n", held);
+#endif
     return 0;
 }

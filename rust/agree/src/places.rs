@@ -1,8 +1,8 @@
 //! The calls on places: on every shape from 2 × 2 × 1 to 16 × 16 × 16, every place of the box that is one longer each way, every node and
 //! one past, every direction and one past. Then sizes that are no sizes, in every position and combination. Then every argument by itself
 //! with one bit added to a good value, so that a call that looks at too few bits is caught.
-use crate::tally::Tally;
-use dukthari::{answers, Place, Sizes};
+use crate::comparison::{Comparison, Tally};
+use crate::library::{Call, Library};
 use oracle::mesh::{self, Mesh};
 use std::thread;
 
@@ -10,56 +10,20 @@ use std::thread;
 const SIZES: [u32; 12] = [0, 1, 2, 3, 16, 17, 255, 256 + 2, 65536, 65536 + 2, 1 << 31, u32::MAX];
 const DIRECTIONS: [u32; 12] = [0, 1, 2, 3, 4, 5, 6, 7, 255, 256, 65536, u32::MAX];
 
-struct Tallies {
-    number: Tally,
-    place: Tally,
-    step: Tally,
-}
-
-impl Tallies {
-    fn new() -> Tallies {
-        Tallies { number: Tally::new("dk_number"), place: Tally::new("dk_place"), step: Tally::new("dk_step") }
+impl Comparison {
+    fn number(&mut self, [w, h, d]: [u32; 3], mesh: Option<&Mesh>, at: [u32; 3]) {
+        let [x, y, z] = at;
+        self.case(Call::Number, &[w, h, d, x, y, z], &mesh::number(mesh, at));
     }
 
-    fn join(&mut self, other: &Tallies) {
-        self.number.join(&other.number);
-        self.place.join(&other.place);
-        self.step.join(&other.step);
+    fn place(&mut self, [w, h, d]: [u32; 3], mesh: Option<&Mesh>, node: u32) {
+        self.case(Call::Place, &[w, h, d, node], &mesh::place(mesh, node));
     }
 
-    fn number(&mut self, size: [u32; 3], mesh: Option<&Mesh>, at: [u32; 3]) {
-        let ([w, h, d], [x, y, z]) = (size, at);
-        let (s, p) = (Sizes { w, h, d }, Place { x, y, z });
-        let a = answers::number(s, p);
-        let wrapper = match s.number(p) {
-            Ok(node) => [0, node],
-            Err(r) => [r.number(), 0],
-        };
-        self.number.case(&[w, h, d, x, y, z], [a.refusal, a.node], wrapper, mesh::number(mesh, at));
-    }
-
-    fn place(&mut self, size: [u32; 3], mesh: Option<&Mesh>, node: u32) {
-        let [w, h, d] = size;
-        let s = Sizes { w, h, d };
-        let a = answers::place(s, node);
-        let wrapper = match s.place(node) {
-            Ok(p) => [0, p.x, p.y, p.z],
-            Err(r) => [r.number(), 0, 0, 0],
-        };
-        self.place.case(&[w, h, d, node], [a.refusal, a.x, a.y, a.z], wrapper, mesh::place(mesh, node));
-    }
-
-    fn steps(&mut self, size: [u32; 3], mesh: Option<&Mesh>, at: [u32; 3], directions: &[u32]) {
-        let ([w, h, d], [x, y, z]) = (size, at);
-        let (s, p) = (Sizes { w, h, d }, Place { x, y, z });
+    fn steps(&mut self, [w, h, d]: [u32; 3], mesh: Option<&Mesh>, at: [u32; 3], directions: &[u32]) {
+        let [x, y, z] = at;
         for (&direction, search) in directions.iter().zip(mesh::steps(mesh, at, directions)) {
-            let a = answers::step(s, p, direction);
-            let wrapper = match s.step(p, direction) {
-                Ok(Some(q)) => [0, 1, q.x, q.y, q.z],
-                Ok(None) => [0; 5],
-                Err(r) => [r.number(), 0, 0, 0, 0],
-            };
-            self.step.case(&[w, h, d, x, y, z, direction], [a.refusal, a.there, a.x, a.y, a.z], wrapper, search);
+            self.case(Call::Step, &[w, h, d, x, y, z, direction], &search);
         }
     }
 
@@ -122,30 +86,20 @@ impl Tallies {
     }
 }
 
-pub fn compare() -> [Tally; 3] {
-    let workers: Vec<_> = (2..=16)
-        .map(|w| {
-            thread::spawn(move || {
-                let mut all = Tallies::new();
-                for h in 2..=16 {
-                    for d in 1..=16 {
-                        all.shape([w, h, d]);
-                    }
+fn every_shape(mut all: Comparison, worker: u32, workers: u32) -> Vec<Tally> {
+    for w in 2..=16 {
+        for h in 2..=16 {
+            for d in 1..=16 {
+                if (w + h + d) % workers == worker {
+                    all.shape([w, h, d]);
                 }
-                all
-            })
-        })
-        .collect();
-    let mut all = Tallies::new();
-    for worker in workers {
-        all.join(&worker.join().unwrap());
+            }
+        }
     }
-    // 2 + .. + 16 = 135 and 1 + .. + 16 = 136: every node of every shape, each with six steps
-    let every_node = 135 * 135 * 136;
-    all.number.expect_granted(every_node);
-    all.place.expect_granted(every_node);
-    all.step.expect_granted(6 * every_node);
+    all.tallies()
+}
 
+fn bad_numbers(mut all: Comparison) -> Vec<Tally> {
     for w in SIZES {
         for h in SIZES {
             for d in SIZES {
@@ -153,14 +107,36 @@ pub fn compare() -> [Tally; 3] {
             }
         }
     }
-    for (size, at, node) in
-        [([2, 3, 1], [1, 2, 0], 5), ([3, 5, 2], [0, 4, 1], 12), ([5, 9, 7], [4, 0, 6], 270), ([16, 16, 16], [0, 0, 0], 0)]
-    {
-        all.one_bit(size, at, node);
+    all.one_bit([2, 3, 1], [1, 2, 0], 5);
+    all.one_bit([3, 5, 2], [0, 4, 1], 12);
+    all.one_bit([5, 9, 7], [4, 0, 6], 270);
+    all.one_bit([16, 16, 16], [0, 0, 0], 0);
+    all.tallies()
+}
+
+fn join(all: &mut [Tally], more: Vec<Tally>) {
+    for (tally, other) in all.iter_mut().zip(&more) {
+        tally.join(other);
     }
-    let tallies = [all.number, all.place, all.step];
-    for tally in &tallies {
+}
+
+pub fn compare(open: &(dyn Fn() -> Box<dyn Library> + Sync)) -> Vec<Tally> {
+    let workers = thread::available_parallelism().map_or(1, |n| n.get() as u32);
+    let mut all = Comparison::new(open()).tallies();
+    thread::scope(|scope| {
+        let started: Vec<_> = (0..workers).map(|i| scope.spawn(move || every_shape(Comparison::new(open()), i, workers))).collect();
+        for worker in started {
+            join(&mut all, worker.join().unwrap());
+        }
+    });
+    // 2 + .. + 16 = 135 and 1 + .. + 16 = 136: every node of every shape, each with six steps
+    let every_node = 135 * 135 * 136;
+    for (tally, granted) in all.iter().zip([every_node, every_node, 6 * every_node]) {
+        tally.expect_granted(granted);
+    }
+    join(&mut all, bad_numbers(Comparison::new(open())));
+    for tally in &all {
         tally.expect_refused(&[1, 5]);
     }
-    tallies
+    all
 }

@@ -1,5 +1,6 @@
-//! The C calls with their answers as they come: every field, on refusals too.
-use crate::{Place, Sizes};
+//! The answers of the C calls as they come: every field, on refusals too.
+use crate::refusal::{granted, Refusal};
+use crate::Place;
 
 #[repr(C)]
 #[derive(Clone, Copy, Debug, PartialEq, Eq)]
@@ -17,6 +18,7 @@ pub struct PlaceAnswer {
     pub z: u32,
 }
 
+/// `there` is 0 where the mesh ends.
 #[repr(C)]
 #[derive(Clone, Copy, Debug, PartialEq, Eq)]
 pub struct StepAnswer {
@@ -27,22 +29,23 @@ pub struct StepAnswer {
     pub z: u32,
 }
 
-extern "C" {
-    fn dk_number(w: u32, h: u32, d: u32, x: u32, y: u32, z: u32) -> NodeAnswer;
-    fn dk_place(w: u32, h: u32, d: u32, node: u32) -> PlaceAnswer;
-    fn dk_step(w: u32, h: u32, d: u32, x: u32, y: u32, z: u32, direction: u32) -> StepAnswer;
+impl NodeAnswer {
+    pub fn result(self) -> Result<u32, Refusal> {
+        granted(self.refusal, 0)?;
+        Ok(self.node)
+    }
 }
 
-// Each call below takes every number: its contract has no `requires`, and it touches no memory but its answer.
-
-pub fn number(s: Sizes, p: Place) -> NodeAnswer {
-    unsafe { dk_number(s.w, s.h, s.d, p.x, p.y, p.z) }
+impl PlaceAnswer {
+    pub fn result(self) -> Result<Place, Refusal> {
+        granted(self.refusal, 0)?;
+        Ok(Place { x: self.x, y: self.y, z: self.z })
+    }
 }
 
-pub fn place(s: Sizes, node: u32) -> PlaceAnswer {
-    unsafe { dk_place(s.w, s.h, s.d, node) }
-}
-
-pub fn step(s: Sizes, p: Place, direction: u32) -> StepAnswer {
-    unsafe { dk_step(s.w, s.h, s.d, p.x, p.y, p.z, direction) }
+impl StepAnswer {
+    pub fn result(self) -> Result<Option<Place>, Refusal> {
+        granted(self.refusal, 0)?;
+        Ok(if self.there == 0 { None } else { Some(Place { x: self.x, y: self.y, z: self.z }) })
+    }
 }
