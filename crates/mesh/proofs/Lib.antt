@@ -2,11 +2,6 @@ pub mod Tests
 pub mod Tables
 pub mod Numbers
 pub mod Steps
-pub mod Rule
-pub mod Left
-pub mod Stuck
-pub mod Marks
-pub mod Bytes
-pub mod ByteRule
+pub mod Granted
 pub mod Whole
 pub mod Answers
