@@ -2,6 +2,12 @@ pub mod Tests
 pub mod Tables
 pub mod Numbers
 pub mod Steps
-pub mod Granted
 pub mod Whole
 pub mod Answers
+pub mod Granted
+pub mod Rule
+pub mod Left
+pub mod Stuck
+pub mod Marks
+pub mod Bytes
+pub mod ByteRule
