@@ -9,4 +9,5 @@ pub mod Marks
 pub mod Bytes
 pub mod ByteRule
 pub mod Whole
+pub mod Fill
 pub mod Answers
