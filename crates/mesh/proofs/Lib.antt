@@ -2,12 +2,13 @@ pub mod Tests
 pub mod Tables
 pub mod Numbers
 pub mod Steps
-pub mod Whole
-pub mod Answers
-pub mod Granted
 pub mod Rule
 pub mod Left
 pub mod Stuck
 pub mod Marks
 pub mod Bytes
 pub mod ByteRule
+pub mod Whole
+pub mod Bits
+pub mod Fill
+pub mod Answers
