@@ -34,11 +34,11 @@ module _ (S : Sizes) (marks : List ℕ) where
   joined-trans j (itself u) = j
   joined-trans j (further k t u) = further (joined-trans j k) t u
 
-  start-unsafe : {a b : ℕ} → Joined S marks a b → T (unsafe marks a)
+  pub start-unsafe : {a b : ℕ} → Joined S marks a b → T (unsafe marks a)
   start-unsafe (itself u) = u
   start-unsafe (further j t u) = start-unsafe j
 
-  end-unsafe : {a b : ℕ} → Joined S marks a b → T (unsafe marks b)
+  pub end-unsafe : {a b : ℕ} → Joined S marks a b → T (unsafe marks b)
   end-unsafe (itself u) = u
   end-unsafe (further j t u) = u
 
@@ -48,18 +48,18 @@ module _ (S : Sizes) (marks : List ℕ) where
 
 -- ---- the list of unsafe nodes
 
+pub unsafe-lt : (marks : List ℕ) (k : ℕ) → T (unsafe marks k) → k < length marks
+unsafe-lt marks k u = elim (tried (leb (length marks) k)) [
+  | inl h ↦ absurd (subst (λ (b : ℕ). T (not (eqb b 0))) (List·getD-eq-default marks 0 (leb→le (length marks) k h)) u)
+  | inr h ↦ nleb→lt (length marks) k h
+]
+
 pub T-unsafe : (marks : List ℕ) (k : ℕ) → T (isIn k (unsafeNodes marks)) ↔ T (unsafe marks k)
 unfolding unsafeNodes
 T-unsafe marks k = (
   λ i. T-keep (unsafe marks) (table (λ j. j) (length marks)) k .0 i .1,
-  λ u. T-keep (unsafe marks) (table (λ j. j) (length marks)) k .1 (T-table (λ j. j) (length marks) k .1 (k, within u, refl), u),
+  λ u. T-keep (unsafe marks) (table (λ j. j) (length marks)) k .1 (T-table (λ j. j) (length marks) k .1 (k, unsafe-lt marks k u, refl), u),
 )
-  where
-    within : T (unsafe marks k) → k < length marks
-    within u = elim (tried (leb (length marks) k)) [
-      | inl h ↦ absurd (subst (λ (b : ℕ). T (not (eqb b 0))) (List·getD-eq-default marks 0 (leb→le (length marks) k h)) u)
-      | inr h ↦ nleb→lt (length marks) k h
-    ]
 
 pub unsafe-ascends : (marks : List ℕ) → Ascending (unsafeNodes marks)
 unfolding unsafeNodes
@@ -160,6 +160,20 @@ module _ (S : Sizes) (marks : List ℕ) where
       T-last S (unsafeNodes marks) a a .1 (i, own S (unsafeNodes marks) a i (length (unsafeNodes marks)))
   complete {a} (further {b} {c} j t u) = closed S (unsafeNodes marks) a b c (complete j) t (T-unsafe marks c .1 u)
 
+  pub T-component : (a b : ℕ) → T (isIn b (component S (unsafeNodes marks) a)) ↔ Joined S marks a b
+  unfolding component
+  T-component a b = (sound a (length (unsafeNodes marks)) b, complete)
+
   pub T-joined : (a b : ℕ) → T (joined S marks a b) ↔ Joined S marks a b
-  unfolding joined component
-  T-joined a b = (sound a (length (unsafeNodes marks)) b, complete)
+  unfolding joined
+  T-joined a b = T-component a b
+
+  -- nodes that are joined have one component
+  pub component-same : {a b : ℕ} → Joined S marks a b → component S (unsafeNodes marks) a ≡ component S (unsafeNodes marks) b
+  component-same {a} {b} j =
+      component-kept S (unsafeNodes marks) a
+      ∙ keep-ext (λ k. isIn k (component S (unsafeNodes marks) a)) (λ k. isIn k (component S (unsafeNodes marks) b)) (unsafeNodes marks) (λ k i. (
+        λ t. T-component b k .1 (joined-trans S marks (joined-sym S marks j) (T-component a k .0 t)),
+        λ t. T-component a k .1 (joined-trans S marks j (T-component b k .0 t)),
+      ))
+      ∙ sym (component-kept S (unsafeNodes marks) b)

@@ -1,2 +1,6 @@
 pub mod Lists
+pub mod Ranks
 pub mod Joined
+pub mod Numbers
+pub mod Extremes
+pub mod Records

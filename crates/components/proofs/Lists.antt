@@ -1,13 +1,13 @@
 -- Lists of node numbers: what is in one, what is kept of one, and lists that ascend. Assumes nothing.
 use mathlib.Core.Path.{_≡_, refl, sym, ap, _∙_, subst}
 use mathlib.Core.Logic.{_↔_, _⊎_, inl, inr}
-use mathlib.Core.Bool.{Bool, true, false, not, _||_}
+use mathlib.Core.Bool.{Bool, true, false, not, _&&_, _||_}
 use mathlib.Core.List.{List, [], _∷_}
-use Prim.Native.Nat.{ℕ, zero, suc, _≤_, _<_}
+use Prim.Native.Nat.{ℕ, zero, suc, _+_, _≤_, _<_}
 use native.Mathlib.Omega.{arith}
 use lib.Dec.{T, T-not, eqb, eqb→eq, eqb-refl}
 use lib.ListN.{length, getD}
-use Rattle.mesh.specs.Tools.{table}
+use Rattle.mesh.specs.Tools.{bit, table, sum, count}
 use Rattle.mesh.proofs.Tests.{T-or, T-eq, holds-true, tried}
 use Rattle.components.specs.Lists.{anyOf, isIn, keepIf, keep}
 
@@ -177,3 +177,31 @@ table-ascends f (suc n) h = (
   λ k i. let (j, l, e) = T-table (λ i. f (suc i)) n k .0 i in rw e (h 0 (suc j) (omega arith)),
   table-ascends (λ i. f (suc i)) n (λ i j l. h (suc i) (suc j) (omega arith)),
 )
+
+-- ---- counts
+
+pub keep-keep : (p q : ℕ → Bool) (l : List ℕ) → keep p (keep q l) ≡ keep (λ k. q k && p k) l
+unfolding keep
+keep-keep p q [] = refl
+keep-keep p q (j ∷ js) = split (q j) (keep-keep p q js)
+  where
+    split : (b : Bool) → keep p (keep q js) ≡ keep (λ k. q k && p k) js → keep p (keepIf b j (keep q js)) ≡ keepIf (b && p j) j (keep (λ k. q k && p k) js)
+    split true ih = ap (keepIf (p j) j) ih
+    split false ih = ih
+
+pub sum-first : (n : ℕ) (f : ℕ → ℕ) → sum (suc n) f ≡ f 0 + sum n (λ i. f (suc i))
+unfolding sum
+sum-first zero f = refl
+sum-first (suc n) f = omega (arith, sum-first n f)
+
+pub keep-count : (p : ℕ → Bool) (f : ℕ → ℕ) (n : ℕ) → length (keep p (table f n)) ≡ count n (λ i. p (f i))
+unfolding table keep sum
+keep-count p f zero = refl
+keep-count p f (suc n) =
+    split (p (f 0))
+    ∙ ap (λ (m : ℕ). bit (p (f 0)) + m) (keep-count p (λ i. f (suc i)) n)
+    ∙ sym (sum-first n (λ k. bit (p (f k))))
+  where
+    split : (b : Bool) → length (keepIf b (f 0) (keep p (table (λ i. f (suc i)) n))) ≡ bit b + length (keep p (table (λ i. f (suc i)) n))
+    split true = omega arith
+    split false = omega arith

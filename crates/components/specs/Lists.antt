@@ -22,9 +22,12 @@ keep p [] = []
 keep p (k ∷ ks) = keepIf (p k) k (keep p ks)
 
 -- the least and the greatest f of a list; 0 of the empty one
+abbrev pub foldedBy : (ℕ → ℕ → ℕ) → (ℕ → ℕ) → List ℕ → ℕ
+foldedBy op f [] = 0
+foldedBy op f (k ∷ ks) = foldr (λ j n. op (f j) n) (f k) ks
+
 unfoldable pub least : (ℕ → ℕ) → List ℕ → ℕ
-least f [] = 0
-least f (k ∷ ks) = foldr (λ j n. min (f j) n) (f k) ks
+least f l = foldedBy min f l
 
 unfoldable pub greatest : (ℕ → ℕ) → List ℕ → ℕ
-greatest f ks = foldr (λ j n. max (f j) n) 0 ks
+greatest f l = foldedBy max f l
