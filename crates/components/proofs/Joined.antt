@@ -67,76 +67,76 @@ unsafe-ascends marks = keep-ascends (unsafe marks) (table (λ j. j) (length mark
 
 -- ---- the rounds
 
-module _ (S : Sizes) (nodes : List ℕ) (a : ℕ) where
+module _ (S : Sizes) (among : List ℕ) (a : ℕ) where
   -- what a round asks of a node
   abbrev asks : ℕ → ℕ → Bool
   asks zero = eqb a
-  asks (suc n) = near S (grown S nodes a n)
+  asks (suc n) = near S (grown S among a n)
 
-  kept : (n : ℕ) → grown S nodes a n ≡ keep (asks n) nodes
+  kept : (n : ℕ) → grown S among a n ≡ keep (asks n) among
   unfolding grown
   kept zero = refl
   kept (suc n) = refl
 
   -- a round asks no more than the one before
-  wider : (n k : ℕ) → T (isIn k nodes) → T (asks n k) → T (asks (suc n) k)
+  wider : (n k : ℕ) → T (isIn k among) → T (asks n k) → T (asks (suc n) k)
   wider n k i t =
-      let here : T (isIn k (grown S nodes a n)) = rw (kept n) (T-keep (asks n) nodes k .1 (i, t)) in
-      T-any-of (grown S nodes a n) (λ j. eqb j k || touching S j k) .1 (k, here, T-or (eqb k k) (touching S k k) .1 (inl (eqb-refl k)))
+      let here : T (isIn k (grown S among a n)) = rw (kept n) (T-keep (asks n) among k .1 (i, t)) in
+      T-any-of (grown S among a n) (λ j. eqb j k || touching S j k) .1 (k, here, T-or (eqb k k) (touching S k k) .1 (inl (eqb-refl k)))
 
-  again : (n : ℕ) → grown S nodes a (suc n) ≡ grown S nodes a n → grown S nodes a (suc (suc n)) ≡ grown S nodes a (suc n)
-  again n e = kept (suc (suc n)) ∙ ap (λ (l : List ℕ). keep (near S l) nodes) e ∙ sym (kept (suc n))
+  again : (n : ℕ) → grown S among a (suc n) ≡ grown S among a n → grown S among a (suc (suc n)) ≡ grown S among a (suc n)
+  again n e = kept (suc (suc n)) ∙ ap (λ (l : List ℕ). keep (near S l) among) e ∙ sym (kept (suc n))
 
   -- a round that adds no node is the last
-  stop : (n : ℕ) → length (grown S nodes a (suc n)) ≤ length (grown S nodes a n) → grown S nodes a (suc n) ≡ grown S nodes a n
+  stop : (n : ℕ) → length (grown S among a (suc n)) ≤ length (grown S among a n) → grown S among a (suc n) ≡ grown S among a n
   stop n l =
-      let fewer : length (keep (asks (suc n)) nodes) ≤ length (keep (asks n) nodes) = omega (arith, ap length (kept n), ap length (kept (suc n))) in
-      kept (suc n) ∙ keep-tight (asks n) (asks (suc n)) nodes (wider n) fewer ∙ sym (kept n)
+      let fewer : length (keep (asks (suc n)) among) ≤ length (keep (asks n) among) = omega (arith, ap length (kept n), ap length (kept (suc n))) in
+      kept (suc n) ∙ keep-tight (asks n) (asks (suc n)) among (wider n) fewer ∙ sym (kept n)
 
   -- after n rounds either that was the last, or at least n nodes are in
-  ladder : (n : ℕ) → (grown S nodes a (suc n) ≡ grown S nodes a n) ⊎ (n ≤ length (grown S nodes a n))
+  ladder : (n : ℕ) → (grown S among a (suc n) ≡ grown S among a n) ⊎ (n ≤ length (grown S among a n))
   ladder zero = inr (omega arith)
   ladder (suc n) = elim (ladder n) [
     | inl e ↦ inl (again n e)
-    | inr h ↦ elim (tried (leb (length (grown S nodes a (suc n))) (length (grown S nodes a n)))) [
-      | inl t ↦ inl (again n (stop n (leb→le (length (grown S nodes a (suc n))) (length (grown S nodes a n)) t)))
-      | inr t ↦ inr (omega (arith, nleb→lt (length (grown S nodes a (suc n))) (length (grown S nodes a n)) t))
+    | inr h ↦ elim (tried (leb (length (grown S among a (suc n))) (length (grown S among a n)))) [
+      | inl t ↦ inl (again n (stop n (leb→le (length (grown S among a (suc n))) (length (grown S among a n)) t)))
+      | inr t ↦ inr (omega (arith, nleb→lt (length (grown S among a (suc n))) (length (grown S among a n)) t))
     ]
   ]
 
-  settled : grown S nodes a (suc (length nodes)) ≡ component S nodes a
+  settled : grown S among a (suc (length among)) ≡ component S among a
   unfolding component
-  settled = elim (ladder (length nodes)) [
+  settled = elim (ladder (length among)) [
     | inl e ↦ e
-    | inr h ↦ stop (length nodes) (omega (arith, ap length (kept (suc (length nodes))), keep-few (asks (suc (length nodes))) nodes))
+    | inr h ↦ stop (length among) (omega (arith, ap length (kept (suc (length among))), keep-few (asks (suc (length among))) among))
   ]
 
   -- the component by its last round
-  last : component S nodes a ≡ keep (asks (length nodes)) nodes
+  last : component S among a ≡ keep (asks (length among)) among
   unfolding component
-  last = kept (length nodes)
+  last = kept (length among)
 
-  T-last : (k : ℕ) → T (isIn k (component S nodes a)) ↔ (T (isIn k nodes) × T (asks (length nodes) k))
-  T-last k = rw last (T-keep (asks (length nodes)) nodes k)
+  T-last : (k : ℕ) → T (isIn k (component S among a)) ↔ (T (isIn k among) × T (asks (length among) k))
+  T-last k = rw last (T-keep (asks (length among)) among k)
 
-  pub component-ascends : Ascending nodes → Ascending (component S nodes a)
-  component-ascends h = rw last (keep-ascends (asks (length nodes)) nodes h)
+  pub component-ascends : Ascending among → Ascending (component S among a)
+  component-ascends h = rw last (keep-ascends (asks (length among)) among h)
 
-  pub component-kept : component S nodes a ≡ keep (λ k. isIn k (component S nodes a)) nodes
-  component-kept = last ∙ keep-ext (asks (length nodes)) (λ k. isIn k (component S nodes a)) nodes λ k i. (λ t. T-last k .1 (i, t), λ h. T-last k .0 h .1)
+  pub component-kept : component S among a ≡ keep (λ k. isIn k (component S among a)) among
+  component-kept = last ∙ keep-ext (asks (length among)) (λ k. isIn k (component S among a)) among λ k i. (λ t. T-last k .1 (i, t), λ h. T-last k .0 h .1)
 
   -- the component has its own node, if that is one of the nodes, and is closed under touching
-  own : T (isIn a nodes) → (n : ℕ) → T (asks n a)
+  own : T (isIn a among) → (n : ℕ) → T (asks n a)
   own i zero = eqb-refl a
   own i (suc n) = wider n a i (own i n)
 
-  closed : (j k : ℕ) → T (isIn j (component S nodes a)) → T (touching S j k) → T (isIn k nodes) → T (isIn k (component S nodes a))
+  closed : (j k : ℕ) → T (isIn j (component S among a)) → T (touching S j k) → T (isIn k among) → T (isIn k (component S among a))
   unfolding component
   closed j k i t m =
-      let n = length nodes in
-      let hit : T (asks (suc n) k) = T-any-of (grown S nodes a n) (λ j. eqb j k || touching S j k) .1 (j, i, T-or (eqb j k) (touching S j k) .1 (inr t)) in
-      let e : keep (asks (suc n)) nodes ≡ component S nodes a = sym (kept (suc n)) ∙ settled in
-      rw e at (T-keep (asks (suc n)) nodes k .1 (m, hit))
+      let n = length among in
+      let hit : T (asks (suc n) k) = T-any-of (grown S among a n) (λ j. eqb j k || touching S j k) .1 (j, i, T-or (eqb j k) (touching S j k) .1 (inr t)) in
+      let e : keep (asks (suc n)) among ≡ component S among a = sym (kept (suc n)) ∙ settled in
+      rw e at (T-keep (asks (suc n)) among k .1 (m, hit))
 
 -- ---- `joined` computes `Joined`
 

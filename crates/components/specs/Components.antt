@@ -13,19 +13,19 @@ use Rattle.components.specs.declared.Component.{Component}
 
 -- the lowest node of a's component: the first, since it ascends
 unfoldable pub lowest : Sizes → List ℕ → ℕ → ℕ
-lowest S nodes a = getD (component S nodes a) 0 0
+lowest S among a = getD (component S among a) 0 0
 
 -- the lowest nodes of the components, ascending, one for each
 unfoldable pub lowestNodes : Sizes → List ℕ → List ℕ
-lowestNodes S nodes = keep (λ a. eqb (lowest S nodes a) a) nodes
+lowestNodes S among = keep (λ a. eqb (lowest S among a) a) among
 
 -- "Components are numbered from 1 by their lowest node number", "0 for a safe one": how many of the lowest nodes are not above a's lowest
 unfoldable pub numberAmong : Sizes → List ℕ → List ℕ → ℕ → ℕ
-numberAmong S nodes firsts a = cond (isIn a nodes) (length (keep (λ k. leb k (lowest S nodes a)) firsts)) 0
+numberAmong S among firsts a = cond (isIn a among) (length (keep (λ k. leb k (lowest S among a)) firsts)) 0
 
 -- "The answer is a table of 16-bit numbers, one for each node"
 abbrev pub tableAmong : Sizes → List ℕ → ℕ → List ℕ
-tableAmong S nodes n = table (numberAmong S nodes (lowestNodes S nodes)) n
+tableAmong S among n = table (numberAmong S among (lowestNodes S among)) n
 
 unfoldable pub tableOf : Sizes → List ℕ → List ℕ
 tableOf S marks = tableAmong S (unsafeNodes marks) (length marks)
@@ -47,7 +47,7 @@ recordOf S members =
     }
 
 abbrev pub recordsAmong : Sizes → List ℕ → List Component
-recordsAmong S nodes = map (λ a. recordOf S (component S nodes a)) (lowestNodes S nodes)
+recordsAmong S among = map (λ a. recordOf S (component S among a)) (lowestNodes S among)
 
 unfoldable pub recordsOf : Sizes → List ℕ → List Component
 recordsOf S marks = recordsAmong S (unsafeNodes marks)

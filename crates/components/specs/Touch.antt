@@ -41,12 +41,12 @@ abbrev pub near : Sizes → List ℕ → ℕ → Bool
 near S some k = anyOf some λ j. eqb j k || touching S j k
 
 unfoldable pub grown : Sizes → List ℕ → ℕ → ℕ → List ℕ
-grown S nodes a zero = keep (eqb a) nodes
-grown S nodes a (suc n) = keep (near S (grown S nodes a n)) nodes
+grown S among a zero = keep (eqb a) among
+grown S among a (suc n) = keep (near S (grown S among a n)) among
 
 -- the component of node a, ascending, among these unsafe nodes
 unfoldable pub component : Sizes → List ℕ → ℕ → List ℕ
-component S nodes a = grown S nodes a (length nodes)
+component S among a = grown S among a (length among)
 
 unfoldable pub joined : Sizes → List ℕ → ℕ → ℕ → Bool
 joined S marks a b = isIn b (component S (unsafeNodes marks) a)
