@@ -4,3 +4,5 @@ pub mod Joined
 pub mod Numbers
 pub mod Extremes
 pub mod Records
+pub mod Around
+pub mod Parts

@@ -3,3 +3,5 @@ pub mod Touch
 pub mod Components
 pub mod Promise
 pub mod Entry
+pub mod Grid
+pub mod Flood

@@ -1,5 +1,7 @@
 // The components of a map: their records. Its specs/ have the definitions and the call's equations.
 
+pub mod flood;
+
 // A component: how many nodes it has, and the least and the greatest coordinate on each axis.
 #[repr(C)]
 pub struct Component {
