@@ -6,3 +6,6 @@ pub mod Extremes
 pub mod Records
 pub mod Around
 pub mod Parts
+pub mod Boxes
+pub mod Labels
+pub mod Few

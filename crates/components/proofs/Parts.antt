@@ -36,7 +36,7 @@ sum-raise (suc n) f g k l e h = elim (eq-or-lt-of-le (le-of-suc-le-suc l)) [
   | inr q ↦ omega (arith, h n (λ s. omega arith), sum-raise n f g k q e h)
 ]
 
-count-le : (n : ℕ) (p : ℕ → Bool) → count n p ≤ n
+pub count-le : (n : ℕ) (p : ℕ → Bool) → count n p ≤ n
 unfolding sum
 count-le zero p = omega arith
 count-le (suc n) p = omega (arith, one (p n), count-le n p)

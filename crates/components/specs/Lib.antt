@@ -5,3 +5,4 @@ pub mod Promise
 pub mod Entry
 pub mod Grid
 pub mod Flood
+pub mod Label
