@@ -1,1 +1,3 @@
 pub mod Entry
+pub mod Sweep
+pub mod Join
