@@ -6,6 +6,7 @@ pub mod Extremes
 pub mod Records
 pub mod Around
 pub mod Parts
+pub mod Layouts
 pub mod Boxes
 pub mod Labels
 pub mod Few

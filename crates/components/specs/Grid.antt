@@ -11,7 +11,6 @@ use Rattle.mesh.specs.Tools.{count}
 use Rattle.mesh.specs.Mesh.{place, inside, number}
 use Rattle.mesh.specs.declared.Sizes.{Sizes}
 use Rattle.mesh.specs.declared.Place.{Place}
-use Rattle.components.specs.Touch.{unsafe}
 
 -- how many places the grid has: 16 × 289 of them for the layers, and room for the last steps
 abbrev pub gridSize : ℕ
@@ -28,9 +27,12 @@ placeAt j = place ((j - 307) % 17) ((j - 307) / 17 % 17) ((j - 307) / 289)
 abbrev pub unseen : ℕ
 unseen = 65535
 
--- the grid before the flood
+-- the grid of mark bytes before the flood
+abbrev pub shade : ℕ → ℕ
+shade mark = cond (eqb mark 0) 0 unseen
+
 unfoldable pub gridAt : Sizes → List ℕ → ℕ → ℕ
-gridAt S marks j = cond (leb 307 j && inside S (placeAt j) && unsafe marks (number S (placeAt j))) unseen 0
+gridAt S marks j = cond (leb 307 j && inside S (placeAt j)) (shade (getD marks (number S (placeAt j)) 0)) 0
 
 -- a spot of some mesh
 pub record Spot (j : ℕ) : Type 0 where

@@ -4,5 +4,6 @@ pub mod Components
 pub mod Promise
 pub mod Entry
 pub mod Grid
+pub mod Layout
 pub mod Flood
 pub mod Label

@@ -1,6 +1,7 @@
 // The components of a map: their records. Its specs/ have the definitions and the call's equations.
 
 pub mod flood;
+pub mod grid;
 pub mod labelling;
 pub mod recording;
 
