@@ -4,3 +4,9 @@ pub mod Joined
 pub mod Numbers
 pub mod Extremes
 pub mod Records
+pub mod Around
+pub mod Parts
+pub mod Layouts
+pub mod Boxes
+pub mod Labels
+pub mod Few
