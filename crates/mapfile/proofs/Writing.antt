@@ -7,12 +7,12 @@ use lib.ListN.{length, take, drop, length-append}
 use lib.Seq.{take-at}
 use Rattle.mesh.specs.Mesh.{nodes}
 use Rattle.mesh.specs.Answers.{granted, numbered, checkMap}
-use Rattle.mesh.proofs.Tests.{T-eq, T-le}
-use Rattle.mesh.proofs.Numbers.{nodes-le}
 use Rattle.mesh.specs.declared.Sizes.{Sizes}
 use Rattle.mesh.specs.declared.Answer.{Answer}
 use Rattle.mesh.specs.declared.Answer.the-variants.{Done, Refused}
 use Rattle.mesh.specs.declared.Numbered.the-variants.{Number}
+use Rattle.mesh.proofs.Tests.{T-eq, T-le}
+use Rattle.mesh.proofs.Numbers.{nodes-le}
 use Rattle.mapfile.specs.Format.{distance, trailer, fileOf, MapFile}
 use Rattle.mapfile.specs.Entry.{readAnswer, readOut, writeCheck, writeAnswer, writeWritten, writeOut}
 use Rattle.mapfile.specs.declared.MapRead.the-variants.{Read}

@@ -1,2 +1,3 @@
+pub mod Stored
 pub mod Format
 pub mod Entry
