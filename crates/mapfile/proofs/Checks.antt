@@ -28,7 +28,7 @@ unless-done t r = (λ e. holds-true t .1 (ok-of t r e), λ h. rw (holds-true t .
 pub sizes-done : (S : Sizes) → (checkSizes S ≡ Done) ↔ InRange S
 sizes-done S = (sizes-granted S, λ r. rw (sizes-is S r))
 
-fails-false : (t : Bool) → T (not t) ↔ (t ≡ false)
+pub fails-false : (t : Bool) → T (not t) ↔ (t ≡ false)
 fails-false true = (λ h. absurd h, λ e. subst T e tt)
 fails-false false = (λ h. refl, λ e. tt)
 

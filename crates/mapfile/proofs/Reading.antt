@@ -58,7 +58,9 @@ module _ (file : List ℕ) (bytes : (i : ℕ) → getD file i 0 < 256) (room : �
   -- the last twelve bytes, one by one
   end : drop (length file - 12) file ≡ table (trailerAt file) 12
   end = ext-getD 0 (drop (length file - 12) file) (table (trailerAt file) 12) (simp (length-drop, length-table) (omega (arith, g .least)))
-      λ i h. getD-drop (length file - 12) file i 0 ∙ sym (getD-table (trailerAt file) 12 i 0 (omega (arith, length-drop (length file - 12) file, g .least)))
+      λ i h.
+      getD-drop (length file - 12) file i 0
+      ∙ sym (getD-table (trailerAt file) 12 i 0 (omega (arith, length-drop (length file - 12) file, g .least)))
 
   mark-byte : (i : ℕ) → i < 4 → trailerAt file (8 + i) ≡ getD fileMark i 0
   unfolding hasMark
@@ -142,20 +144,28 @@ module _ (S : Sizes) (notes cells : List ℕ) (r : InRange S) (whole : length ce
       record {
         least = omega (arith, size);
         fits = fits;
-        mark = T-all 4 (λ i. eqb (trailerAt its (8 + i)) (getD fileMark i 0)) .1 λ i h. T-eq (trailerAt its (8 + i)) (getD fileMark i 0) .1 (mark-at i);
+        mark =
+            T-all 4 (λ i. eqb (trailerAt its (8 + i)) (getD fileMark i 0)) .1
+            λ i h. T-eq (trailerAt its (8 + i)) (getD fileMark i 0) .1 (mark-at i);
         zero-byte = byte 3;
         in-range = subst InRange (sym sizes-are) r;
         says = distance-is ∙ sym (ap distance sizes-are);
         inside = omega (arith, size, same);
         holds = omega (arith, same);
-        good = rw cells-are (subst (λ (Z : Sizes). (k : ℕ) → k < length cells → T (not (badCell Z k (getD cells k 0)))) (sym sizes-are) λ k h. good k (omega (arith, whole)));
+        good =
+            rw cells-are
+            (subst (λ (Z : Sizes). (k : ℕ) → k < length cells → T (not (badCell Z k (getD cells k 0)))) (sym sizes-are)
+            λ k h. good k (omega (arith, whole)));
       }
 
 -- ---- the two together
 
 read-as : (a : Answer) (Z S : Sizes) → (mapRead a Z ≡ Read S) ↔ ((a ≡ Done) × (Z ≡ S))
 read-as Done Z S = (λ e. (refl, (cc)), λ q. ap Read (q .1))
-read-as (Refused r) Z S = (λ e. let z : _≡_ {A = ℕ} 0 1 = cc in absurd (omega arith), λ q. let z : _≡_ {A = ℕ} 0 1 = cc (q .0) in absurd (omega arith))
+read-as (Refused r) Z S = (
+  λ e. let z : _≡_ {A = ℕ} 0 1 = cc in absurd (omega arith),
+  λ q. let z : _≡_ {A = ℕ} 0 1 = cc (q .0) in absurd (omega arith),
+)
 
 module _ (file : List ℕ) {S : Sizes} {cells : List ℕ} (f : MapFile S cells file) where
   pub file-sizes : sizesIn file ≡ S
