@@ -1,4 +1,6 @@
 pub mod Differences
+pub mod Box
+pub mod Rows
 pub mod Paths
 pub mod Walks
 pub mod Offered
