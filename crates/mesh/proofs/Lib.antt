@@ -12,3 +12,4 @@ pub mod Whole
 pub mod Bits
 pub mod Fill
 pub mod Answers
+pub mod Granted
