@@ -3,7 +3,7 @@ use mathlib.Core.Path.{_≡_, refl, ap, _∙_}
 use mathlib.Core.Bool.{Bool, true, false}
 use mathlib.Core.Logic.{_⊎_, inl, inr}
 use mathlib.Core.List.{List}
-use Prim.Native.Nat.{ℕ, zero, suc, _+_, _-_, _*_, _<_, _≤_}
+use Prim.Native.Nat.{ℕ, suc, _+_, _-_, _*_, _<_}
 use native.Mathlib.Omega.{arith}
 use native.Mathlib.Nat.{eq-or-lt-of-le, le-of-suc-le-suc}
 use native.Mathlib.Numerals.{add-one}
@@ -13,10 +13,9 @@ use lib.Dec.{ltb, leb}
 use Rattle.mesh.specs.Tools.{bit, implies}
 use Rattle.mesh.specs.Mesh.{InRange, Inside}
 use Rattle.mesh.specs.Cells.{Map}
-use Rattle.mesh.specs.Marks.{shut}
 use Rattle.mesh.specs.Fill.{Filled}
 use Rattle.mesh.specs.declared.Place.{Place}
-use Rattle.marks.specs.Sweep.{withLeft, Layer, Swept, Stretch}
+use Rattle.marks.specs.Sweep.{Layer, Swept, Stretch}
 use Rattle.marks.proofs.Lines.{next-row, lay-room}
 
 last-or : (i n : ℕ) → i < n + 1 → (i ≡ n) ⊎ (i < n)
@@ -77,7 +76,7 @@ module _ (m : Map) (o : ℕ) where
     done = λ a b h k. absurd (omega arith);
     ahead = λ a b l h k.
         let fits = lay-room (m .sizes) r b k in
-        let row = next-row (m .sizes .w) b in
+        let row = next-row (m .sizes .w) b a in
         F .kept (a + m .sizes .w * suc b) (λ i n q. omega arith) ∙ known .1 (a + m .sizes .w * suc b) (omega arith) ∙ e ∙ ap bit (uncounted (m .sizes .d));
   }
 

@@ -1,20 +1,19 @@
 -- A row that is swept with the rows ahead of it holds what is shut: 01's rule at each of its nodes, in steps left. Assumes nothing.
 use mathlib.Core.Path.{_≡_, refl, sym, ap, _∙_, subst}
-use mathlib.Core.Bool.{Bool, true, false, _&&_, _||_}
+use mathlib.Core.Bool.{Bool, _&&_, _||_}
 use mathlib.Core.List.{List}
 use Prim.Native.Nat.{ℕ, zero, suc, _+_, _-_, _*_, _<_, _≤_}
 use native.Mathlib.Omega.{arith}
 use native.Mathlib.Nat.{mul-suc, mul-le-mul}
 use borrow.Author.Count.{below-more}
 use borrow.Author.Tests.{lt-ltb, le-leb}
-use lib.ListN.{length, getD}
-use lib.Dec.{ltb, leb}
-use Rattle.mesh.specs.Tools.{bit, one, implies}
+use lib.ListN.{getD}
+use lib.Dec.{ltb}
+use Rattle.mesh.specs.Tools.{bit, one}
 use Rattle.mesh.specs.Mesh.{X, Y, Z, place, nodes, number, InRange, Inside}
 use Rattle.mesh.specs.Steps.{runsDown}
 use Rattle.mesh.specs.Cells.{Map, faulty, faultyCell}
 use Rattle.mesh.specs.Marks.{flip, toGo, shut}
-use Rattle.mesh.specs.Fill.{Filled}
 use Rattle.mesh.proofs.Bits.{bit-one, bit-le}
 use Rattle.mesh.proofs.Numbers.{room, digit-lt, digit-eq, number-lt, number-eq}
 use Rattle.mesh.proofs.Left.{flip-lt, to-go-in}
@@ -22,18 +21,18 @@ use Rattle.mesh.proofs.Marks.{shut-step}
 use Rattle.mesh.proofs.Fill.{fill-safe}
 use Rattle.mesh.specs.declared.Sizes.{Sizes}
 use Rattle.mesh.specs.declared.Place.{Place}
-use Rattle.marks.specs.Sweep.{Bits, rowOf, rowAt, Row, withLeft, aheadZ, Layer, Right, Swept, Stretch}
+use Rattle.marks.specs.Sweep.{Bits, rowOf, rowAt, Row, withLeft, aheadZ, Layer, Swept, Stretch}
 use Rattle.marks.proofs.Rows.{or-false}
 
--- the rows of `lay`: the one after w * b, and the last one ends in time
-pub next-row : (w b : ℕ) → w * b + w ≡ w * suc b
-next-row w b = sym (mul-suc w b)
+-- the rows of `lay`: the one after the row at w * b, and the last one ends in time
+pub next-row : (w b a : ℕ) → a + w * b + w ≡ a + w * suc b
+next-row w b a = omega (arith, mul-suc w b)
 
-pub lay-room : (S : Sizes) → InRange S → (b : ℕ) → b < S .h → S .w + (S .w * b + S .w) ≤ 272
+pub lay-room : (S : Sizes) → InRange S → (b : ℕ) → b < S .h → S .w + S .w * b + S .w ≤ 272
 lay-room S r b h =
     let l : suc b ≤ 16 = omega (arith, r .h-hi) in
     let q : S .w * suc b ≤ 256 = mul-le-mul (r .w-hi) l in
-    omega (arith, next-row (S .w) b, r .w-hi)
+    omega (arith, next-row (S .w) b 0, r .w-hi)
 
 module _ (m : Map) (o b c : ℕ) (sized : InRange (m .sizes)) (hb : b < m .sizes .h) (hc : c < m .sizes .d) where
   abbrev w : ℕ
@@ -81,19 +80,16 @@ module _ (m : Map) (o b c : ℕ) (sized : InRange (m .sizes)) (hb : b < m .sizes
             let e : suc n - 1 ≡ n = omega arith in
             rw (lt-ltb 0 (suc n) (omega arith), e) (K .done a n l (omega arith))
 
-    lay-z : (a : ℕ) → a < w → getD lay (a + (w * b + w)) 0 ≡ bit (aheadZ m o a b c)
-    lay-z a l = rw (next-row w b) (L .ahead a b l (omega arith) hb)
+    lay-z : (a : ℕ) → a < w → getD lay (a + w * b + w) 0 ≡ bit (aheadZ m o a b c)
+    lay-z a l = rw (next-row w b a) (L .ahead a b l (omega arith) hb)
 
-    pub bits-y : Bits lay (w * b) w
-    bits-y a l = rw (lay-y a l) (bit-le (aheadY a))
-
-    pub bits-z : Bits lay (w * b + w) w
-    bits-z a l = rw (lay-z a l) (bit-le (aheadZ m o a b c))
+    pub rows-bits : Bits lay w (w * b)
+    rows-bits a l = (rw (lay-y a l) (bit-le (aheadY a)), rw (lay-z a l) (bit-le (aheadZ m o a b c)))
 
     row-is : (a : ℕ) → a < w → rowAt (m .cells) lay w first (w * b) down a ≡ shut m o (withLeft m o a b c)
     row-is = rows-are (λ i. faultyCell (getD (m .cells) (flip down w i + first) 0))
         (λ i. one (getD lay (i + w * b) 0))
-        (λ i. one (getD lay (i + (w * b + w)) 0))
+        (λ i. one (getD lay (i + w * b + w) 0))
         (λ a l. refl)
         (λ a l. ap one (lay-y a l) ∙ bit-one (aheadY a))
         (λ a l. ap one (lay-z a l) ∙ bit-one (aheadZ m o a b c))
@@ -102,11 +98,11 @@ module _ (m : Map) (o b c : ℕ) (sized : InRange (m .sizes)) (hb : b < m .sizes
       -- rows of `lay` with other steps left are kept
       other-row : (a n : ℕ) → a < w → (n ≡ b → ⊥) → getD lay′ (a + w * suc n) 0 ≡ getD lay (a + w * suc n) 0
       other-row a n l d = R .in-lay .kept (a + w * suc n) λ i h e.
-          let q : a + w * suc n ≡ i + w * suc b = e ∙ ap (λ (j : ℕ). i + j) (next-row w b) in
+          let q : a + w * suc n ≡ i + w * suc b = e ∙ next-row w b i in
           d (let r = digit-eq w a i (suc n) (suc b) l h q .1 in omega arith)
 
       own-row : (a : ℕ) → a < w → getD lay′ (a + w * suc b) 0 ≡ bit (shut m o (withLeft m o a b c))
-      own-row a l = subst (λ (j : ℕ). getD lay′ (a + j) 0 ≡ bit (shut m o (withLeft m o a b c))) (next-row w b) (R .in-lay .at a l ∙ ap bit (row-is a l))
+      own-row a l = subst (λ (j : ℕ). getD lay′ j 0 ≡ bit (shut m o (withLeft m o a b c))) (next-row w b a) (R .in-lay .at a l ∙ ap bit (row-is a l))
 
       layer-more : Layer m o c (b + 1) lay′
       layer-more = record {

@@ -2,7 +2,7 @@
 use mathlib.Core.Path.{_≡_, refl, sym, ap, _∙_}
 use mathlib.Core.Bool.{Bool, true, false, _&&_, _||_}
 use mathlib.Core.List.{List}
-use Prim.Native.Nat.{ℕ, zero, suc, _+_, _-_, _<_, _≤_}
+use Prim.Native.Nat.{ℕ, zero, suc, _+_, _<_, _≤_}
 use native.Mathlib.Omega.{arith}
 use native.Mathlib.Numerals.{add-one}
 use lib.Bits.{bitAnd, bitOr}
@@ -50,30 +50,30 @@ module _ (cells lay lay′ : List ℕ) (w k j : ℕ) (down : Bool) where
   row = rowAt cells lay w k j down
 
   -- what turn a reads has not been written by the turns before it
-  unread-y : (a : ℕ) → Filled (λ i. i + (j + w)) (λ i. bit (row i)) lay lay′ a → a < w → getD lay′ (a + j) 0 ≡ getD lay (a + j) 0
+  unread-y : (a : ℕ) → Filled (λ i. i + j + w) (λ i. bit (row i)) lay lay′ a → a < w → getD lay′ (a + j) 0 ≡ getD lay (a + j) 0
   unread-y a F l = F .kept (a + j) (λ i h e. omega arith)
 
-  unread-z : (a : ℕ) → Filled (λ i. i + (j + w)) (λ i. bit (row i)) lay lay′ a → getD lay′ (a + (j + w)) 0 ≡ getD lay (a + (j + w)) 0
-  unread-z a F = F .kept (a + (j + w)) (λ i h e. omega arith)
+  unread-z : (a : ℕ) → Filled (λ i. i + j + w) (λ i. bit (row i)) lay lay′ a → getD lay′ (a + j + w) 0 ≡ getD lay (a + j + w) 0
+  unread-z a F = F .kept (a + j + w) (λ i h e. omega arith)
 
-  pub read-bits : (a last : ℕ) → Filled (λ i. i + (j + w)) (λ i. bit (row i)) lay lay′ a → a < w → Bits lay j w → Bits lay (j + w) w
-      → last ≡ bit (before row a) → (last ≤ 1) × (getD lay′ (a + j) 0 ≤ 1) × (getD lay′ (a + (j + w)) 0 ≤ 1)
-  read-bits a last F l by bz e = (rw e (bit-le (before row a)), rw (unread-y a F l) (by a l), rw (unread-z a F) (bz a l))
+  pub read-bits : (a last : ℕ) → Filled (λ i. i + j + w) (λ i. bit (row i)) lay lay′ a → a < w → Bits lay w j
+      → last ≡ bit (before row a) → (last ≤ 1) × (getD lay′ (a + j) 0 ≤ 1) × (getD lay′ (a + j + w) 0 ≤ 1)
+  read-bits a last F l bits e = (rw e (bit-le (before row a)), rw (unread-y a F l) (bits a l .0), rw (unread-z a F) (bits a l .1))
 
-  pub row-turn : (a last x r : ℕ) → Filled (λ i. i + (j + w)) (λ i. bit (row i)) lay lay′ a → a < w → last ≡ bit (before row a) → x ≡ flip down w a
-      → r ≡ bit (faultyCell (getD cells (x + k) 0) || (one last && one (getD lay′ (a + j) 0) && one (getD lay′ (a + (j + w)) 0)))
+  pub row-turn : (a last x r : ℕ) → Filled (λ i. i + j + w) (λ i. bit (row i)) lay lay′ a → a < w → last ≡ bit (before row a) → x ≡ flip down w a
+      → r ≡ bit (faultyCell (getD cells (x + k) 0) || (one last && one (getD lay′ (a + j) 0) && one (getD lay′ (a + j + w) 0)))
       → r ≡ bit (row a)
   row-turn a last x r F l el ex er =
       er
       ∙ (rw (ex, el, unread-y a F l, unread-z a F, bit-one (before row a)))
-      ∙ ap bit (sym (row-step (λ i. faultyCell (getD cells (flip down w i + k) 0)) (λ i. one (getD lay (i + j) 0)) (λ i. one (getD lay (i + (j + w)) 0)) a))
+      ∙ ap bit (sym (row-step (λ i. faultyCell (getD cells (flip down w i + k) 0)) (λ i. one (getD lay (i + j) 0)) (λ i. one (getD lay (i + j + w) 0)) a))
 
   pub row-more : (out out′ : List ℕ) (a x r : ℕ) → Row cells lay lay′ out out′ w k j down a → a < w → x < w
-      → w + (j + w) ≤ length lay → w + k ≤ length out → x ≡ flip down w a → r ≡ bit (row a)
-      → Row cells lay (set lay′ (a + (j + w)) r) out (set out′ (x + k) r) w k j down (a + 1)
+      → w + j + w ≤ length lay → w + k ≤ length out → x ≡ flip down w a → r ≡ bit (row a)
+      → Row cells lay (set lay′ (a + j + w) r) out (set out′ (x + k) r) w k j down (a + 1)
   row-more out out′ a x r R l lx hl ho ex er =
       let e : x + k ≡ flip down w a + k = ap (λ (i : ℕ). i + k) ex in
       record {
-        in-lay = fill-more _ _ lay lay′ a (a + (j + w)) r (R .in-lay) (omega (arith, R .in-lay .size)) (λ i h q. omega arith) refl er;
+        in-lay = fill-more _ _ lay lay′ a (a + j + w) r (R .in-lay) (omega (arith, R .in-lay .size)) (λ i h q. omega arith) refl er;
         in-out = fill-more _ _ out out′ a (x + k) r (R .in-out) (omega (arith, R .in-out .size)) (λ i h q. flip-apart down w k i a h l (q ∙ e)) e er;
       }

@@ -1,5 +1,5 @@
 -- How a map is swept: from the end ahead, row by row, all of it in steps left. A node is shut if it is faulty or stuck. Assumes nothing.
-use mathlib.Core.Bool.{Bool, true, false, _&&_, _||_}
+use mathlib.Core.Bool.{Bool, _&&_, _||_}
 use mathlib.Core.List.{List}
 use mathlib.Core.Path.{_≡_}
 use Prim.Native.Nat.{ℕ, zero, suc, _+_, _-_, _*_, _<_, _≤_}
@@ -7,15 +7,15 @@ use lib.ListN.{getD, length}
 use lib.Dec.{ltb}
 use Rattle.mesh.specs.Tools.{bit, one, implies}
 use Rattle.mesh.specs.Mesh.{Z, place, nodes, number, InRange, Inside}
-use Rattle.mesh.specs.Cells.{Map, mapOf, faultyCell}
+use Rattle.mesh.specs.Cells.{Map, faultyCell}
 use Rattle.mesh.specs.Marks.{counted, flip, toGo, shut}
 use Rattle.mesh.specs.Fill.{Filled}
 use Rattle.mesh.specs.declared.Sizes.{Sizes}
 use Rattle.mesh.specs.declared.Place.{Place}
 
--- the n bytes of l from i are 0 or 1
+-- the row of w bytes at j, and the one after it, are 0s and 1s
 abbrev pub Bits : List ℕ → ℕ → ℕ → Type 0
-Bits l i n = (a : ℕ) → a < n → getD l (a + i) 0 ≤ 1
+Bits l w j = (a : ℕ) → a < w → (getD l (a + j) 0 ≤ 1) × (getD l (a + j + w) 0 ≤ 1)
 
 -- ---- a row
 
@@ -27,11 +27,11 @@ rowOf f y z (suc a) = f (suc a) || (rowOf f y z a && y (suc a) && z (suc a))
 -- the row of w whose cells begin at k: in `lay` the row ahead on Y begins at j, and the one ahead on Z after it
 abbrev pub rowAt : List ℕ → List ℕ → ℕ → ℕ → ℕ → Bool → ℕ → Bool
 rowAt cells lay w k j down =
-    rowOf (λ i. faultyCell (getD cells (flip down w i + k) 0)) (λ i. one (getD lay (i + j) 0)) (λ i. one (getD lay (i + (j + w)) 0))
+    rowOf (λ i. faultyCell (getD cells (flip down w i + k) 0)) (λ i. one (getD lay (i + j) 0)) (λ i. one (getD lay (i + j + w) 0))
 
 -- n bytes of such a row stand in the place of the row ahead on Z, and in `out` at their nodes
 pub record Row (cells lay lay′ out out′ : List ℕ) (w k j : ℕ) (down : Bool) (n : ℕ) : Type 0 where
-  pub in-lay : Filled (λ a. a + (j + w)) (λ a. bit (rowAt cells lay w k j down a)) lay lay′ n
+  pub in-lay : Filled (λ a. a + j + w) (λ a. bit (rowAt cells lay w k j down a)) lay lay′ n
   pub in-out : Filled (λ a. flip down w a + k) (λ a. bit (rowAt cells lay w k j down a)) out out′ n
 
 -- ---- a layer

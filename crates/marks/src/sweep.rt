@@ -32,15 +32,15 @@ fn met(cell: u8, x: u8, y: u8, z: u8) -> u8
 
 // A row: its w cells begin at k; in lay the row ahead on Y begins at j, and the one ahead on Z, whose place it takes, after it.
 fn row(cells: &[u8], lay: &mut [u8; 272], out: &mut [u8], w: usize, k: usize, j: usize, down: bool)
-    requires { ⌜ (w + k ≤ length (now cells)) × (w + k ≤ length (now out)) × (length (now lay) ≡ 272) × (w + (j + w) ≤ 272) ⌝ }
-    requires { ⌜ Bits (now lay) j w × Bits (now lay) (j + w) w ⌝ }
+    requires { ⌜ (w + k ≤ length (now cells)) × (w + k ≤ length (now out)) × (length (now lay) ≡ 272) × (w + j + w ≤ 272) × Bits (now lay) w j ⌝ }
     ensures { λ _. ⌜ Row (now (cells .entry)) (now (lay .entry)) (now (lay .exit)) (now (out .entry)) (now (out .exit)) w k j down w ⌝ }
 {
     let mut last = 0u8;
     for a in 0..w {
         let i = coord(down, w, a) + k;
-        let own = a + (j + w);
-        last = met(cells[i], last, lay[a + j], lay[own]);
+        let y = a + j;
+        let own = y + w;
+        last = met(cells[i], last, lay[y], lay[own]);
         lay[own] = last;
         out[i] = last;
     }

@@ -2,9 +2,8 @@
 use mathlib.Core.Path.{_≡_, refl, _∙_, subst}
 use Prim.Native.Nat.{ℕ, _-_, _≤_}
 use native.Mathlib.Omega.{arith}
-use borrow.Author.Needs.{needs}
 use denote.Ref.{now}
-use lib.ListN.{length, getD}
+use lib.ListN.{getD}
 use Rattle.mesh.specs.Fill.{Filled}
 use Rattle.mesh.proofs.Fill.{fill-none, fill-more}
 use Rattle.marks.specs.Join.{markFrom}

@@ -1,9 +1,8 @@
 -- `marks::sweep::first_layer` meets its contract: the loop writes the edge's row. Assumes nothing.
-use mathlib.Core.Path.{_≡_, refl, sym, _∙_, subst}
+use mathlib.Core.Path.{_≡_, refl, subst}
 use Prim.Native.Nat.{ℕ, _-_, _≤_}
 use native.Mathlib.Omega.{arith}
 use borrow.Author.Needs.{needs}
-use lib.ListN.{length}
 use Rattle.mesh.specs.Fill.{Filled}
 use Rattle.mesh.specs.Cells.{mapOf}
 use Rattle.mesh.proofs.Fill.{fill-none, fill-more}

@@ -4,7 +4,7 @@ use Prim.Native.Nat.{ℕ, _-_, _<_, _≤_}
 use native.Mathlib.Omega.{arith}
 use denote.Ref.{now}
 use lib.ListN.{length}
-use Rattle.mesh.specs.Cells.{Map, mapOf}
+use Rattle.mesh.specs.Cells.{mapOf}
 use Rattle.marks.specs.Sweep.{Stretch}
 use Rattle.marks.proofs.Layers.{rows-none, rows-more}
 use Rattle.marks.proofs.sweep.layer.Statement.{statement}

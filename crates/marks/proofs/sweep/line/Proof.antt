@@ -1,11 +1,10 @@
 -- `marks::sweep::line` meets its contract: the row that it calls for is the one with b and c steps left, and `lay` has the rows ahead. Assumes nothing.
-use mathlib.Core.Path.{_≡_, _∙_}
-use Prim.Native.Nat.{ℕ, _+_, _*_, _≤_}
+use mathlib.Core.Path.{_≡_}
 use native.Mathlib.Omega.{arith}
 use borrow.Author.Needs.{needs}
 use denote.Ref.{now}
 use Rattle.mesh.specs.Cells.{Map, mapOf}
-use Rattle.marks.proofs.Lines.{lay-room, first, first-room, bits-y, bits-z, line-done}
+use Rattle.marks.proofs.Lines.{lay-room, first, first-room, rows-bits, line-done}
 use Rattle.marks.proofs.sweep.line.Statement.{statement}
 use Rattle.marks.proofs.sweep.line.Tie as tie
 
@@ -43,11 +42,11 @@ row-requires c κs =
     let r = s .pre .0 in
     let fits = first-room (M s) (a .o) (a .b) (a .c) (r .sized) (s .pre .1) (s .pre .2) in
     let k = k-is n in (
-      (omega (arith, r .cells-long), omega (arith, r .out-long), s .pre .3 .long, lay-room (a .s) (r .sized) (a .b) (s .pre .1)),
-      (
-        bits-y (M s) (a .o) (a .b) (a .c) (r .sized) (s .pre .1) (s .pre .2) (now (a .lay)) (s .pre .3),
-        bits-z (M s) (a .o) (a .b) (a .c) (r .sized) (s .pre .1) (s .pre .2) (now (a .lay)) (s .pre .3),
-      ),
+      omega (arith, r .cells-long),
+      omega (arith, r .out-long),
+      s .pre .3 .long,
+      lay-room (a .s) (r .sized) (a .b) (s .pre .1),
+      rows-bits (M s) (a .o) (a .b) (a .c) (r .sized) (s .pre .1) (s .pre .2) (now (a .lay)) (s .pre .3),
     )
 
 same-length : tie.Need-same-length

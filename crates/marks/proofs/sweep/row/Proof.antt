@@ -1,14 +1,9 @@
 -- `marks::sweep::row` meets its contract: turn a writes the byte with a steps left, from three that no turn before it wrote. Assumes nothing.
-use mathlib.Core.Bool.{Bool}
-use mathlib.Core.List.{List}
 use mathlib.Core.Path.{_≡_, refl, sym, _∙_, ap, subst}
-use Prim.Native.Nat.{ℕ, _+_, _-_, _≤_}
+use Prim.Native.Nat.{ℕ, _-_, _≤_}
 use native.Mathlib.Omega.{arith}
 use denote.Ref.{now}
-use lib.ListN.{length}
 use Rattle.mesh.specs.Tools.{bit}
-use Rattle.mesh.specs.Marks.{flip}
-use Rattle.mesh.specs.Fill.{Filled}
 use Rattle.mesh.proofs.Fill.{fill-none}
 use Rattle.marks.specs.Sweep.{rowAt, Row}
 use Rattle.marks.proofs.Rows.{before, before-next, read-bits, row-turn, row-more}
@@ -34,14 +29,11 @@ add-i c = omega arith
 add-own : tie.Need-add-own Inv-loop μ-loop
 add-own c = omega arith
 
-add-own-2 : tie.Need-add-own-2 Inv-loop μ-loop
-add-own-2 c = omega arith
+add-y : tie.Need-add-y Inv-loop μ-loop
+add-y c = omega arith
 
 shared-slice-read-met : tie.Need-shared-slice-read-met Inv-loop μ-loop
 shared-slice-read-met c = omega arith
-
-add-met : tie.Need-add-met Inv-loop μ-loop
-add-met c = omega arith
 
 element-copy-out-met : tie.Need-element-copy-out-met Inv-loop μ-loop
 element-copy-out-met c = omega arith
@@ -54,8 +46,9 @@ met-requires c κs =
     let at = c .before .before .before .before .before in
     let s = at .before .before .before in
     let a = s .args in
-    read-bits (now (a .cells)) (now (a .lay)) (at .loop .lay) (a .w) (a .k) (a .j) (a .down) (at .loop .a) (at .loop .last)
-    (at .loop .inv .1 .in-lay) (omega arith) (s .pre .1 .0) (s .pre .1 .1) (at .loop .inv .2)
+    let bits = read-bits (now (a .cells)) (now (a .lay)) (at .loop .lay) (a .w) (a .k) (a .j) (a .down) (at .loop .a) (at .loop .last)
+    (at .loop .inv .1 .in-lay) (omega arith) (s .pre .4) (at .loop .inv .2) in
+    search bits
 
 element-write-lay : tie.Need-element-write-lay Inv-loop μ-loop
 element-write-lay c = omega arith
@@ -104,10 +97,9 @@ row-spec =
     loop-holds
     coord-requires
     add-i
+    add-y
     add-own
-    add-own-2
     shared-slice-read-met
-    add-met
     element-copy-out-met
     element-copy-out-met-2
     met-requires
