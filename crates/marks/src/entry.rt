@@ -40,8 +40,9 @@ fn mark_all(s: Sizes, cells: &[u8], o: usize, out: &mut [u8])
     ensures { λ _. ⌜ now (out .exit) ≡ marksWritten s (now (cells .entry)) o (now (out .entry)) ⌝ }
 {
     let mut behind = blank();
+    let reversed = 7 - o;
     sweep(s, cells, out, o);
-    sweep(s, cells, &mut behind, 7 - o);
+    sweep(s, cells, &mut behind, reversed);
     join(cells, &behind, out, s.nodes());
 }
 

@@ -1,14 +1,13 @@
 -- A loop that stores v i at f i, for i from 0: one store more, and what was right stays right. Assumes nothing.
 use mathlib.Core.Path.{_≡_, refl, ap, _∙_}
 use mathlib.Core.Logic.{inl, inr}
-use mathlib.Core.Bool.{Bool}
 use mathlib.Core.List.{List}
 use Prim.Native.Nat.{ℕ, _+_, _<_}
 use native.Mathlib.Omega.{arith}
 use borrow.Author.Count.{below-more}
 use lib.ListN.{length, getD, set, length-set}
 use lib.Seq.{getD-set-same, getD-set-other}
-use lib.Dec.{T, eqb}
+use lib.Dec.{eqb}
 use Rattle.mesh.specs.Tools.{any}
 use Rattle.mesh.specs.Fill.{Filled}
 use Rattle.mesh.proofs.Tests.{T-any, T-eq, T-no, tried}

@@ -1,14 +1,11 @@
 -- `marks::entry::mark_all` meets its contract: a sweep for each mark, then their joining. Assumes nothing.
-use mathlib.Core.Path.{_≡_, _∙_, subst}
+use mathlib.Core.Path.{_∙_, subst}
 use Prim.Native.Nat.{ℕ}
 use native.Mathlib.Omega.{arith}
 use borrow.Author.Needs.{needs}
 use denote.Ref.{now}
-use Rattle.mesh.specs.Steps.{reversed}
-use Rattle.mesh.specs.Cells.{mapOf}
-use Rattle.mesh.specs.Fill.{Filled}
 use Rattle.mesh.proofs.Numbers.{nodes-le}
-use Rattle.marks.specs.Join.{markFrom, Bytes}
+use Rattle.marks.specs.Join.{Joined}
 use Rattle.marks.proofs.Written.{swept-bytes, written}
 use Rattle.marks.proofs.entry.mark_all.Statement.{statement}
 use Rattle.marks.proofs.entry.mark_all.Tie as tie
@@ -16,14 +13,14 @@ use Rattle.marks.proofs.entry.mark_all.Tie as tie
 blank-requires : tie.Need-blank-requires
 blank-requires c κs = search needs
 
+sub-reversed : tie.Need-sub-reversed
+sub-reversed c = search needs
+
 sweep-requires : tie.Need-sweep-requires
 sweep-requires c κs = search needs
 
 slice-aggregate-sweep : tie.Need-slice-aggregate-sweep
 slice-aggregate-sweep c = search needs
-
-sub-sweep : tie.Need-sub-sweep
-sub-sweep c = search needs
 
 sweep-requires-2 : tie.Need-sweep-requires-2
 sweep-requires-2 c κs =
@@ -51,9 +48,9 @@ join-requires c κs =
     let n = c .nodes .ensures .0 in
     rw n (
       omega (arith, r .cells-long),
-      swept-bytes (mapOf (a .s) (now (a .cells))) (reversed (a .o)) _ (g .sweep2 .last .1 .1 .0) (g .sweep2 .ensures)
+      swept-bytes _ _ _ (g .sweep2 .last .1 .1 .0) (g .sweep2 .ensures)
           (omega (arith, f .before .before .blank .ensures, g .sweep2 .kept .1 .1 .0, nodes-le (a .s) (r .sized))),
-      swept-bytes (mapOf (a .s) (now (a .cells))) (a .o) _ (f .sweep .last .1 .1 .0) (f .sweep .ensures) (omega (arith, r .out-long, f .sweep .kept .1 .1 .0)),
+      swept-bytes _ _ _ (f .sweep .last .1 .1 .0) (f .sweep .ensures) (omega (arith, r .out-long, f .sweep .kept .1 .1 .0)),
     )
 
 same-length : tie.Need-same-length
@@ -69,17 +66,17 @@ returns c =
     let a = s .args in
     written (a .s) (a .o) (now (a .cells)) (now (a .out)) (f .sweep .last .1 .1 .0) _ (g .sweep2 .last .1 .1 .0) (k .join .last .1 .1 .0)
     (s .pre .0) (k .join .kept .1 .1 .0 ∙ f .sweep .kept .1 .1 .0) (f .sweep .ensures) (g .sweep2 .ensures)
-    (subst (λ (j : ℕ). Filled (λ i. i) (markFrom (now (a .cells)) (f .sweep .last .1 .1 .0) (g .sweep2 .last .1 .1 .0)) (f .sweep .last .1 .1 .0) (k .join .last .1 .1 .0) j)
-    (n .nodes .ensures .0) (k .join .ensures))
+    (subst (λ (n : ℕ). Joined (now (a .cells)) (g .sweep2 .last .1 .1 .0) (f .sweep .last .1 .1 .0) (k .join .last .1 .1 .0) n) (n .nodes .ensures .0)
+    (k .join .ensures))
 
 pub mark-all-spec : {M : Type 1} → statement M
 mark-all-spec =
     tie.close
     (tie.spec
     blank-requires
+    sub-reversed
     sweep-requires
     slice-aggregate-sweep
-    sub-sweep
     sweep-requires-2
     slice-aggregate-join
     nodes-requires

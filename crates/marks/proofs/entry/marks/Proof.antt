@@ -1,10 +1,8 @@
 -- `marks::entry::marks` meets its contract: what is lent changes only where no refusal stands. Assumes nothing.
-use mathlib.Core.Path.{_≡_, _∙_, sym, ap}
+use mathlib.Core.Path.{_≡_, _∙_, sym}
 use borrow.Author.Needs.{needs}
 use denote.Ref.{now}
 use lib.ListN.{length}
-use Rattle.mesh.specs.Answers.{granted}
-use Rattle.mesh.specs.declared.Answer.{Answer}
 use Rattle.mesh.specs.declared.Answer.the-variants.{Done}
 use Rattle.mesh.proofs.Answers.{kept}
 use Rattle.marks.specs.Entry.{marksAnswer, marksWritten}
@@ -47,9 +45,7 @@ returns-2 : tie.Need-returns-2
 returns-2 c =
     let k = c .before .before in
     let t = k .before .before in
-    let a = t .before .before .before .before .before .args in
-    let new = marksWritten (a .s) (now (a .cells)) (a .orientation) (now (a .out)) in
-    (t .before .before .marks-answer .ensures, k .mark-all .ensures ∙ ap (λ (x : Answer). granted x new (now (a .out))) (sym (in-order t)))
+    (t .before .before .marks-answer .ensures, rw (in-order t) (k .mark-all .ensures))
 
 pub marks-spec : {M : Type 1} → statement M
 marks-spec =

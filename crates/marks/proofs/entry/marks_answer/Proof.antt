@@ -1,5 +1,6 @@
 -- `marks::entry::marks_answer` meets its contract: each check is run where those before it are granted. Assumes nothing.
 use mathlib.Core.Path.{_≡_, _∙_, sym}
+use native.Mathlib.Omega.{arith}
 use borrow.Author.Needs.{needs}
 use borrow.Author.Tests.{le-leb, lt-leb}
 use denote.Ref.{now}
@@ -33,7 +34,7 @@ returns-2 : tie.Need-returns-2
 returns-2 c =
     let t = c .before in
     let a = t .before .before .before .before .args in
-    marks-5 (a .s) (now (a .cells)) (a .orientation) (a .room) (in-order t) (lt-leb _ _ (c .if1 .taken))
+    marks-5 (a .s) (now (a .cells)) (a .orientation) (a .room) (in-order t) (lt-leb (a .orientation) 7 (omega arith))
 
 nodes-requires : tie.Need-nodes-requires
 nodes-requires c κs =
@@ -46,7 +47,7 @@ returns-3 c =
     let n = c .before in
     let t = n .before .before in
     let a = t .before .before .before .before .args in
-    marks-3 (a .s) (now (a .cells)) (a .orientation) (a .room) (in-order t) (le-leb _ _ (n .before .if1 .left))
+    marks-3 (a .s) (now (a .cells)) (a .orientation) (a .room) (in-order t) (le-leb (a .orientation) 7 (omega arith))
     (lt-leb _ _ (rw (n .nodes .ensures .0) at (c .if2 .taken)))
 
 returns-4 : tie.Need-returns-4
@@ -54,7 +55,7 @@ returns-4 c =
     let n = c .before in
     let t = n .before .before in
     let a = t .before .before .before .before .args in
-    marks-0 (a .s) (now (a .cells)) (a .orientation) (a .room) (in-order t) (le-leb _ _ (n .before .if1 .left))
+    marks-0 (a .s) (now (a .cells)) (a .orientation) (a .room) (in-order t) (le-leb (a .orientation) 7 (omega arith))
     (le-leb _ _ (rw (n .nodes .ensures .0) at (c .if2 .left)))
 
 pub marks-answer-spec : {M : Type 1} → statement M
