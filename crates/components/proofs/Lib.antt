@@ -13,3 +13,4 @@ pub mod Boxes
 pub mod Labels
 pub mod Few
 pub mod Nodes
+pub mod Outcomes
