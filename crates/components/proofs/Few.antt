@@ -7,47 +7,15 @@ use Prim.Native.Nat.{ℕ, zero, suc, _+_, _-_, _*_, _/_, _%_, _≤_, _<_}
 use native.Mathlib.Omega.{arith}
 use lib.Dec.{T, eqb, ltb, ltb→lt, nltb→le, lit<}
 use lib.ListN.{getD}
-use borrow.Author.Tests.{eq-eqb, ne-eqb}
-use Rattle.mesh.specs.Tools.{bit, sum, count, all, any}
-use Rattle.mesh.proofs.Tests.{T-and, T-or, T-eq, T-all, T-any, tried, holds-true}
-use Rattle.mesh.proofs.Tables.{sum-zero}
+use Rattle.mesh.specs.Tools.{all}
+use Rattle.mesh.proofs.Tests.{T-and, T-or, T-eq, T-all, tried}
 use Rattle.components.specs.Grid.{unseen, spot, placeAt, Spot, Beside}
 use Rattle.components.specs.Label.{Untouched, Labelled}
 use Rattle.mesh.specs.declared.Place.{Place}
 use Rattle.components.specs.declared.Component.{Component}
 use Rattle.components.proofs.Around.{step, turns, spot-at, beside-step}
-use Rattle.components.proofs.Parts.{same-or-not, sum-raise, count-le}
+use Rattle.components.proofs.Counts.{few}
 use Rattle.components.proofs.Labels.{was-unseen}
-
--- ---- n different numbers below m: n is at most m
-
-module _ (f : ℕ → ℕ) (m : ℕ) where
-  -- v is one of the first n
-  abbrev hit : ℕ → ℕ → Bool
-  hit n v = any n λ i. eqb (f i) v
-
-  no-hit : (n v : ℕ) → ((i : ℕ) → i < n → f i ≡ v → ⊥) → hit n v ≡ false
-  no-hit n v h = go (hit n v) refl
-    where
-      go : (b : Bool) → hit n v ≡ b → b ≡ false
-      go true e = let (i, l, t) = T-any n (λ i. eqb (f i) v) .0 (holds-true (hit n v) .1 e) in absurd (h i l (T-eq (f i) v .0 t))
-      go false e = refl
-
-  hits : (n : ℕ) → ((i : ℕ) → i < n → f i < m) → ((i j : ℕ) → i < j → j < n → f i ≡ f j → ⊥) → count m (hit n) ≡ n
-  unfolding any
-  hits zero lt apart = sum-zero m (λ v. bit (hit zero v)) λ v l. refl
-  hits (suc n) lt apart =
-      sum-raise m (λ v. bit (hit n v)) (λ v. bit (hit (suc n) v)) (f n) (lt n (omega arith)) new old
-      ∙ ap suc (hits n (λ i l. lt i (omega arith)) (λ i j l k. apart i j l (omega arith)))
-    where
-      new : bit (hit (suc n) (f n)) ≡ suc (bit (hit n (f n)))
-      new = rw (eq-eqb (f n) (f n) refl, no-hit n (f n) (λ i l. apart i n l (omega arith)))
-
-      old : (v : ℕ) → (v ≡ f n → ⊥) → bit (hit (suc n) v) ≡ bit (hit n v)
-      old v h = rw (ne-eqb (f n) v (λ e. h (sym e)))
-
-  pub few : (n : ℕ) → ((i : ℕ) → i < n → f i < m) → ((i j : ℕ) → i < j → j < n → f i ≡ f j → ⊥) → n ≤ m
-  few n lt apart = omega (arith, hits n lt apart, count-le m (hit n))
 
 -- ---- spots of the same x and the same halves of y and z
 

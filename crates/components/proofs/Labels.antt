@@ -18,7 +18,7 @@ use Rattle.components.specs.Flood.{Flooded}
 use Rattle.components.specs.Label.{leastOf, greatestOf, Ranged, Spans, Recorded, Untouched, Labelled}
 use Rattle.components.specs.declared.Component.{Component}
 use Rattle.components.proofs.Around.{spot-le, beside-sym}
-use Rattle.components.proofs.Parts.{sum-same, same-or-not}
+use Rattle.components.proofs.Counts.{sum-same, same-or-not}
 use Rattle.components.proofs.Boxes.{Boxed}
 
 -- nothing is numbered yet

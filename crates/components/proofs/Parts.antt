@@ -1,49 +1,22 @@
 -- The steps of the flood: a place that enters the queue, and the places around one. Assumes nothing.
 use mathlib.Core.Path.{_≡_, refl, sym, ap, _∙_, subst}
 use mathlib.Core.Logic.{_⊎_, inl, inr}
-use mathlib.Core.Bool.{Bool, true, false}
 use mathlib.Core.List.{List}
 use Prim.Native.Nat.{ℕ, zero, suc, _+_, _≤_, _<_}
 use native.Mathlib.Omega.{arith}
 use native.Mathlib.Numerals.{add-one}
 use native.Mathlib.Nat.{eq-or-lt-of-le, le-of-suc-le-suc}
-use lib.Dec.{T, eqb}
+use lib.Dec.{eqb}
 use lib.ListN.{length, getD, set, length-set}
 use lib.Seq.{getD-set-same, getD-set-other}
 use borrow.Author.Tests.{eq-eqb, ne-eqb}
-use Rattle.mesh.specs.Tools.{bit, sum, count}
-use Rattle.mesh.proofs.Tests.{T-eq, T-no, tried}
+use Rattle.mesh.specs.Tools.{bit, count}
 use Rattle.mesh.proofs.Tables.{sum-zero}
 use Rattle.components.specs.Grid.{gridSize, unseen, around, Beside, Linked, here, onward, howOften}
 use Rattle.components.specs.Flood.{Sized, Visited, entered, passed, Part, Spread, Flooded}
-
-pub same-or-not : (i j : ℕ) → (i ≡ j) ⊎ (i ≡ j → ⊥)
-same-or-not i j = elim (tried (eqb i j)) [ inl t ↦ inl (T-eq i j .0 t) | inr t ↦ inr (λ e. T-no (eqb i j) .0 t (T-eq i j .1 e)) ]
+use Rattle.components.proofs.Counts.{same-or-not, sum-raise, count-le}
 
 -- ---- how often a number stands in a list
-
-pub sum-same : (n : ℕ) (f g : ℕ → ℕ) → ((k : ℕ) → k < n → f k ≡ g k) → sum n f ≡ sum n g
-unfolding sum
-sum-same zero f g h = refl
-sum-same (suc n) f g h = omega (arith, h n (omega arith), sum-same n f g (λ k l. h k (omega arith)))
-
--- one summand is one more, the others are the same
-pub sum-raise : (n : ℕ) (f g : ℕ → ℕ) (k : ℕ) → k < n → g k ≡ suc (f k) → ((j : ℕ) → (j ≡ k → ⊥) → g j ≡ f j) → sum n g ≡ suc (sum n f)
-unfolding sum
-sum-raise zero f g k l e h = absurd (omega arith)
-sum-raise (suc n) f g k l e h = elim (eq-or-lt-of-le (le-of-suc-le-suc l)) [
-  | inl q ↦ omega (arith, ap f q, ap g q, sum-same n g f (λ j r. h j (λ s. omega arith)))
-  | inr q ↦ omega (arith, h n (λ s. omega arith), sum-raise n f g k q e h)
-]
-
-pub count-le : (n : ℕ) (p : ℕ → Bool) → count n p ≤ n
-unfolding sum
-count-le zero p = omega arith
-count-le (suc n) p = omega (arith, one (p n), count-le n p)
-  where
-    one : (b : Bool) → bit b ≤ 1
-    one true = omega arith
-    one false = omega arith
 
 pub often-le : (g : List ℕ) (m : ℕ) → howOften g m ≤ length g
 often-le g m = count-le (length g) λ j. eqb (getD g j 0) m

@@ -10,13 +10,13 @@ ghost use lib.ListN.{length, getD};
 ghost use Rattle.components.specs.Grid.{gridSize};
 ghost use Rattle.components.specs.Label.{Untouched, Labelled};
 
-fn blank_queue() -> [u16; 5220]
+pub fn blank_queue() -> [u16; 5220]
     ensures { λ r. ⌜ length r ≡ gridSize ⌝ }
 {
     [0; 5220]
 }
 
-fn blank_records() -> [Component; 1024]
+pub fn blank_records() -> [Component; 1024]
     ensures { λ r. ⌜ length r ≡ 1024 ⌝ }
 {
     [Component {

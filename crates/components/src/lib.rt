@@ -1,9 +1,12 @@
 // The components of a map: their records. Its specs/ have the definitions and the call's equations.
 
+pub mod entry;
 pub mod flood;
 pub mod grid;
 pub mod labelling;
 pub mod recording;
+
+use mesh::Numbered;
 
 // A component: how many nodes it has, and the least and the greatest coordinate on each axis.
 #[repr(C)]
@@ -19,6 +22,13 @@ pub struct Component {
 
 // How many components there are, and their records; there are never more than 1,024.
 pub struct Found {
+    pub count: usize,
+    pub records: [Component; 1024],
+}
+
+// The answer, and the records that are still to be stored: none on a refusal.
+pub struct Outcome {
+    pub answer: Numbered,
     pub count: usize,
     pub records: [Component; 1024],
 }
