@@ -1,6 +1,9 @@
 pub mod Differences
 pub mod Box
+pub mod Runs
 pub mod Rows
+pub mod Backward
+pub mod Forward
 pub mod Paths
 pub mod Walks
 pub mod Offered
