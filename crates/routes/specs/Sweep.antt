@@ -3,16 +3,19 @@
 use mathlib.Core.Path.{_≡_}
 use mathlib.Core.Bool.{Bool, true, false, cond, _&&_, _||_}
 use mathlib.Core.List.{List, _∷_}
-use Prim.Native.Nat.{ℕ, zero, suc, _+_, _-_, _*_, _<_, _≤_}
+use Prim.Native.Nat.{ℕ, zero, suc, _+_, _-_, _*_, _^_, _<_, _≤_}
 use lib.ListN.{length, getD, replicate}
 use lib.Bits.{bitAnd, bitOr}
-use lib.Dec.{ltb, eqb}
+use lib.Dec.{T, ltb, eqb}
 use Rattle.mesh.specs.Tools.{bit}
-use Rattle.mesh.specs.Mesh.{InRange, place, nodes}
-use Rattle.mesh.specs.Cells.{Map, cellAt, mayPass}
+use Rattle.mesh.specs.Mesh.{InRange, Inside, place, nodes}
+use Rattle.mesh.specs.Cells.{Map, mapOf, cellAt, mayPass, mayEnd}
 use Rattle.mesh.specs.declared.Sizes.{Sizes}
 use Rattle.mesh.specs.declared.Place.{Place}
 use Rattle.routes.specs.Box.{gone, reach, Within, Held}
+use Rattle.routes.specs.declared.Wanted.{Wanted}
+use Rattle.routes.specs.declared.Wanted.the-variants.{Way, Level}
+use Rattle.routes.specs.declared.Ways.{Ways}
 use Rattle.routes.specs.declared.Run.{Run}
 use Rattle.routes.specs.declared.Between.{Between}
 
@@ -53,6 +56,14 @@ pub record Ready (S : Sizes) (cells : List ℕ) (g : Between) : Type 0 where
   pub whole : length cells ≡ nodes S
   pub held : Held S g
 
+-- a map that was checked, and the two ends of a route in it
+pub record Ends (S : Sizes) (cells : List ℕ) (p e : Place) : Type 0 where
+  pub sized : InRange S
+  pub whole : length cells ≡ nodes S
+  pub start-in : Inside S p
+  pub end-in : Inside S e
+  pub end-may : T (mayEnd (cellAt (mapOf S cells) e))
+
 -- bytes 0 or 1, joined without a branch
 abbrev pub joined : Bool → ℕ → ℕ → ℕ → ℕ
 joined ok y z x = bitAnd (bit ok) (bitOr (bitOr y z) x)
@@ -85,3 +96,19 @@ seed = 1 ∷ replicate 255 0
 -- the byte one step nearer on an axis, if a step is left
 abbrev pub entered : List ℕ → ℕ → ℕ → ℕ → ℕ
 entered table k stride left = cond (ltb 0 left) (getD table (k - stride) 0) 0
+
+-- the ways into a node: the bytes one step nearer
+abbrev pub waysOf : (Place → Bool) → Place → Ways
+waysOf seen t = record {
+  x = bit (ltb 0 (t .x) && seen (place (t .x - 1) (t .y) (t .z)));
+  y = bit (ltb 0 (t .y) && seen (place (t .x) (t .y - 1) (t .z)));
+  z = bit (ltb 0 (t .z) && seen (place (t .x) (t .y) (t .z - 1)));
+}
+
+abbrev pub WaysTo : Map → Between → Place → Ways → Type 0
+WaysTo m g t w = (seen : Place → Bool) → Seen m g seen → w ≡ waysOf seen t
+
+-- the bit of a preferred direction, if the way is seen
+abbrev pub flagOf : Wanted → ℕ → ℕ
+flagOf (Way j) seen = seen * 2 ^ j
+flagOf Level seen = 0

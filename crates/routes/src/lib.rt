@@ -2,6 +2,8 @@
 use mesh::Refusal;
 
 pub mod boxes;
+pub mod entries;
+pub mod offers;
 pub mod signed;
 pub mod sweep;
 
@@ -22,6 +24,13 @@ pub struct Run {
     pub from: usize,
     pub steps: usize,
     pub down: bool,
+}
+
+// On each axis, the byte of the node one step nearer to the corner where a sweep began; 0 if there is none.
+pub struct Ways {
+    pub x: u8,
+    pub y: u8,
+    pub z: u8,
 }
 
 // The nodes between two places, from the first towards the second.
