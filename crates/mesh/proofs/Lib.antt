@@ -2,6 +2,7 @@ pub mod Tests
 pub mod Tables
 pub mod Numbers
 pub mod Steps
+pub mod Strides
 pub mod Rule
 pub mod Left
 pub mod Stuck
