@@ -11,6 +11,7 @@ pub mod Hear
 pub mod Calls
 pub mod Later
 pub mod Exact
+pub mod Counted
 pub mod Rounds
 pub mod Exists
 pub mod Promise

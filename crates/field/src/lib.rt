@@ -1,4 +1,5 @@
 // The talking nodes: a state's bytes, the test that it is sound, and the calls on it. Its answers are mesh's.
 
 pub mod bytes;
+pub mod news;
 pub mod scan;
