@@ -10,4 +10,7 @@ pub mod Marks
 pub mod Bytes
 pub mod ByteRule
 pub mod Whole
+pub mod Bits
+pub mod Fill
 pub mod Answers
+pub mod Granted
