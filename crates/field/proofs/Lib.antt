@@ -9,6 +9,7 @@ pub mod Scanned
 pub mod Fresh
 pub mod Hear
 pub mod Calls
+pub mod Taken
 pub mod Later
 pub mod Exact
 pub mod Counted

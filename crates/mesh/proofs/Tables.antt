@@ -3,10 +3,10 @@ use mathlib.Core.Path.{_≡_, refl, ap}
 use mathlib.Core.Logic.{_⊎_, inl, inr}
 use mathlib.Core.Bool.{Bool, true, false}
 use mathlib.Core.List.{List, []}
-use Prim.Native.Nat.{ℕ, zero, suc, _+_, _*_, _≤_, _<_}
+use Prim.Native.Nat.{ℕ, zero, suc, _+_, _≤_, _<_}
 use native.Mathlib.Omega.{arith}
 use native.Mathlib.Numerals.{add-one}
-use native.Mathlib.Nat.{mul-suc, eq-or-lt-of-le, le-of-suc-le-suc, not-suc-le-zero}
+use native.Mathlib.Nat.{eq-or-lt-of-le, le-of-suc-le-suc, not-suc-le-zero}
 use lib.Dec.{T}
 use lib.ListN.{length, getD}
 use Rattle.mesh.specs.Tools.{table, sum, bit, count}
@@ -31,11 +31,6 @@ sum-same (suc n) f g e = omega (arith, e n (omega arith), sum-same n f g (λ k l
 pub sum-more : (n : ℕ) (f : ℕ → ℕ) → sum (n + 1) f ≡ f n + sum n f
 unfolding sum
 sum-more n f = rw add-one
-
-pub sum-le : (n b : ℕ) (f : ℕ → ℕ) → ((k : ℕ) → k < n → f k ≤ b) → sum n f ≤ b * n
-unfolding sum
-sum-le zero b f h = omega arith
-sum-le (suc n) b f h = omega (arith, h n (omega arith), sum-le n b f (λ k l. h k (omega arith)), mul-suc b n)
 
 pub sum-mono : (n : ℕ) (f g : ℕ → ℕ) → ((k : ℕ) → k < n → f k ≤ g k) → sum n f ≤ sum n g
 unfolding sum
