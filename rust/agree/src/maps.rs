@@ -28,9 +28,9 @@ pub fn size(r: &mut Random) -> Size {
     size.map(|n| n as u32)
 }
 
-/// Sizes up to the greatest.
+/// Sizes up to the greatest, which stands more often.
 pub fn any_size(r: &mut Random) -> Size {
-    [r.between(2, 16), r.between(2, 16), r.between(1, 16)].map(|n| n as u32)
+    [2, 2, 1].map(|least| if r.percent(30) { 16 } else { r.between(least, 16) as u32 })
 }
 
 /// Cells of every density from 0 to 100 %: scattered; in sheets across the mesh with holes in them, which make long chains of marks; and with
@@ -47,6 +47,13 @@ pub fn cells(r: &mut Random, size: Size) -> Vec<u8> {
         3 => place(size, node).map(|n| n % 2).windows(2).all(|w| w[0] == w[1]) && !r.percent(holes),
         _ => r.percent(density),
     };
+    (0..nodes(size)).map(cell).map(u8::from).collect()
+}
+
+/// Few faulty nodes, scattered, or sheets with many holes: long paths remain.
+pub fn sparse(r: &mut Random, size: Size) -> Vec<u8> {
+    let (density, sheets, signs, apart) = (r.between(0, 15), r.percent(40), r.below(8), r.between(3, 9));
+    let cell = |node| if sheets { in_sheet(size, node, signs, apart) && r.percent(95 - 4 * density) } else { r.percent(density) };
     (0..nodes(size)).map(cell).map(u8::from).collect()
 }
 

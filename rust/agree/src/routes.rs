@@ -84,18 +84,30 @@ pub fn small(all: &mut Comparison, job: usize, jobs: usize) {
     }
 }
 
-/// Random pairs, mostly of working nodes, on maps where many a path exists and many does not.
+/// Random pairs, mostly of working nodes; on one map in five up to 16 × 16 × 16, most of these sparse and asked from corner to corner too.
 pub fn random(all: &mut Comparison, job: usize, jobs: usize) {
     let mut r = Random::new(4000 + job as u64);
     for i in (job..MAPS).step_by(jobs) {
-        let size = if i % 5 == 0 { maps::any_size(&mut r) } else { maps::size(&mut r) };
-        let cells = maps::cells(&mut r, size);
+        let large = i / jobs % 5 == 0;
+        let size = if large { maps::any_size(&mut r) } else { maps::size(&mut r) };
+        let cells = if large && r.percent(70) { maps::sparse(&mut r, size) } else { maps::cells(&mut r, size) };
         for _ in 0..PAIRS {
             let end = |r: &mut Random| maps::working(r, &cells).filter(|_| !r.percent(3)).unwrap_or_else(|| r.below(cells.len()));
-            let (start, end) = (end(&mut r), end(&mut r));
+            let (start, end) = if large && r.percent(40) { corners(&mut r, size) } else { (end(&mut r), end(&mut r)) };
             all.pair(&mut r, size, start, end, &cells, true);
         }
     }
+}
+
+/// Two opposite corners, now and then on an edge instead.
+fn corners(r: &mut Random, size: Size) -> (usize, usize) {
+    let (mut start, mut end) = ([0; 3], [0; 3]);
+    for axis in 0..3 {
+        let last = size[axis] as usize - 1;
+        (start[axis], end[axis]) = r.pick(&[(0, last), (0, last), (last, 0), (last, 0), (last, last), (0, 0)]);
+    }
+    let node = |[x, y, z]: [usize; 3]| x + size[0] as usize * (y + size[1] as usize * z);
+    (node(start), node(end))
 }
 
 pub fn refusals(all: &mut Comparison) {
