@@ -2,6 +2,10 @@ pub mod State
 pub mod Decide
 pub mod Same
 pub mod Rule
+pub mod Quick
+pub mod Shown
+pub mod Tested
+pub mod Scanned
 pub mod Fresh
 pub mod Hear
 pub mod Calls

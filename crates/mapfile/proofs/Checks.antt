@@ -8,12 +8,12 @@ use native.Mathlib.Omega.{arith}
 use borrow.Author.Tests.{ltb-false, le-ltb}
 use lib.Dec.{T, ltb}
 use lib.ListN.{length, getD}
-use Rattle.mesh.specs.Mesh.{inRange, InRange}
+use Rattle.mesh.specs.Mesh.{InRange}
 use Rattle.mesh.specs.Cells.{badCell, firstBad}
 use Rattle.mesh.specs.Answers.{_andThen_, unless, checkSizes, checkCells}
 use Rattle.mesh.specs.declared.Sizes.{Sizes}
 use Rattle.mesh.specs.declared.Refusal.{Refusal}
-use Rattle.mesh.specs.declared.Refusal.the-variants.{BadSizes, BadCell}
+use Rattle.mesh.specs.declared.Refusal.the-variants.{BadCell}
 use Rattle.mesh.specs.declared.Answer.{Answer}
 use Rattle.mesh.specs.declared.Answer.the-variants.{Done, Refused}
 use Rattle.mesh.proofs.Tests.{holds-true}
@@ -28,7 +28,7 @@ unless-done t r = (λ e. holds-true t .1 (ok-of t r e), λ h. rw (holds-true t .
 pub sizes-done : (S : Sizes) → (checkSizes S ≡ Done) ↔ InRange S
 sizes-done S = (sizes-granted S, λ r. rw (sizes-is S r))
 
-fails-false : (t : Bool) → T (not t) ↔ (t ≡ false)
+pub fails-false : (t : Bool) → T (not t) ↔ (t ≡ false)
 fails-false true = (λ h. absurd h, λ e. subst T e tt)
 fails-false false = (λ h. refl, λ e. tt)
 
