@@ -1,23 +1,15 @@
-//! Who answers the calls. A request is the number of a call and its arguments, an answer its fields; both are runs of words, one after another.
+//! Who answers the calls: a program that serves the library over a pipe, or functions in this program.
+use crate::call::Call;
+use crate::request::Request;
 use std::io::{Read, Write};
 use std::process::{Child, Command, Stdio};
 
-#[derive(Clone, Copy, Debug, PartialEq, Eq)]
-pub enum Call {
-    Number,
-    Place,
-    Step,
-}
-
-impl Call {
-    pub const ALL: [Call; 3] = [Call::Number, Call::Place, Call::Step];
-
-    pub fn name(self) -> &'static str {
-        ["dk_number", "dk_place", "dk_step"][self as usize]
-    }
-}
-
 pub trait Library {
+    fn name(&self) -> &'static str;
+
+    /// Whether it has a call.
+    fn has(&self, call: Call) -> bool;
+
     /// The answers to some requests.
     fn answer(&mut self, asked: &[u32]) -> Vec<u32>;
 }
@@ -54,6 +46,14 @@ impl Served {
 }
 
 impl Library for Served {
+    fn name(&self) -> &'static str {
+        "from C"
+    }
+
+    fn has(&self, call: Call) -> bool {
+        dukthari::declares(call.name())
+    }
+
     fn answer(&mut self, asked: &[u32]) -> Vec<u32> {
         self.exchange(asked).unwrap_or_else(|e| stop(&format!("the program that serves the library stopped: {e}")))
     }
@@ -68,45 +68,30 @@ impl Drop for Served {
     }
 }
 
-/// The archive, linked into this program and called by its wrapper.
-#[cfg(target_arch = "x86_64")]
-pub struct Linked;
+/// Functions in this program: each does the call on the request's buffers and gives the fields of the answer.
+pub struct Here {
+    pub name: &'static str,
+    pub has: fn(Call) -> bool,
+    pub call: fn(&mut Request) -> Vec<u32>,
+}
 
-#[cfg(target_arch = "x86_64")]
-impl Library for Linked {
+impl Library for Here {
+    fn name(&self) -> &'static str {
+        self.name
+    }
+
+    fn has(&self, call: Call) -> bool {
+        (self.has)(call)
+    }
+
     fn answer(&mut self, mut asked: &[u32]) -> Vec<u32> {
-        use dukthari::{calls, Place, Sizes};
-        let mut fields = Vec::new();
-        let mut next = || {
-            let (first, rest) = asked.split_first()?;
+        let mut answers = Vec::new();
+        while !asked.is_empty() {
+            let (mut request, rest) = Request::take(asked);
+            answers.extend((self.call)(&mut request));
+            request.push_lent(&mut answers);
             asked = rest;
-            Some(*first)
-        };
-        while let Some(call) = next() {
-            let mut word = || next().unwrap();
-            let s = Sizes { w: word(), h: word(), d: word() };
-            match Call::ALL[call as usize] {
-                Call::Number => {
-                    let p = Place { x: word(), y: word(), z: word() };
-                    let a = calls::number(s, p);
-                    assert_eq!(a.result(), s.number(p));
-                    fields.extend([a.refusal, a.node]);
-                }
-                Call::Place => {
-                    let node = word();
-                    let a = calls::place(s, node);
-                    assert_eq!(a.result(), s.place(node));
-                    fields.extend([a.refusal, a.x, a.y, a.z]);
-                }
-                Call::Step => {
-                    let p = Place { x: word(), y: word(), z: word() };
-                    let direction = word();
-                    let a = calls::step(s, p, direction);
-                    assert_eq!(a.result(), s.step(p, direction));
-                    fields.extend([a.refusal, a.there, a.x, a.y, a.z]);
-                }
-            }
         }
-        fields
+        answers
     }
 }

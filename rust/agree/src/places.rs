@@ -1,10 +1,9 @@
 //! The calls on places: on every shape from 2 × 2 × 1 to 16 × 16 × 16, every place of the box that is one longer each way, every node and
 //! one past, every direction and one past. Then sizes that are no sizes, in every position and combination. Then every argument by itself
 //! with one bit added to a good value, so that a call that looks at too few bits is caught.
+use crate::call::Call;
 use crate::comparison::{Comparison, Tally};
-use crate::library::{Call, Library};
 use oracle::mesh::{self, Mesh};
-use std::thread;
 
 /// Numbers at and past every limit, and such as look good in their lower 8 or 16 bits.
 const SIZES: [u32; 12] = [0, 1, 2, 3, 16, 17, 255, 256 + 2, 65536, 65536 + 2, 1 << 31, u32::MAX];
@@ -13,17 +12,17 @@ const DIRECTIONS: [u32; 12] = [0, 1, 2, 3, 4, 5, 6, 7, 255, 256, 65536, u32::MAX
 impl Comparison {
     fn number(&mut self, [w, h, d]: [u32; 3], mesh: Option<&Mesh>, at: [u32; 3]) {
         let [x, y, z] = at;
-        self.case(Call::Number, &[w, h, d, x, y, z], &mesh::number(mesh, at));
+        self.known(Call::Number, &[w, h, d, x, y, z], &mesh::number(mesh, at));
     }
 
     fn place(&mut self, [w, h, d]: [u32; 3], mesh: Option<&Mesh>, node: u32) {
-        self.case(Call::Place, &[w, h, d, node], &mesh::place(mesh, node));
+        self.known(Call::Place, &[w, h, d, node], &mesh::place(mesh, node));
     }
 
     fn steps(&mut self, [w, h, d]: [u32; 3], mesh: Option<&Mesh>, at: [u32; 3], directions: &[u32]) {
         let [x, y, z] = at;
         for (&direction, search) in directions.iter().zip(mesh::steps(mesh, at, directions)) {
-            self.case(Call::Step, &[w, h, d, x, y, z, direction], &search);
+            self.known(Call::Step, &[w, h, d, x, y, z, direction], &search);
         }
     }
 
@@ -86,20 +85,26 @@ impl Comparison {
     }
 }
 
-fn every_shape(mut all: Comparison, worker: u32, workers: u32) -> Vec<Tally> {
+/// Every shape, one in `jobs` of them.
+pub fn shapes(all: &mut Comparison, job: u32, jobs: u32) {
+    if !all.asks(Call::Number) {
+        return;
+    }
     for w in 2..=16 {
         for h in 2..=16 {
             for d in 1..=16 {
-                if (w + h + d) % workers == worker {
+                if (w + h + d) % jobs == job {
                     all.shape([w, h, d]);
                 }
             }
         }
     }
-    all.tallies()
 }
 
-fn bad_numbers(mut all: Comparison) -> Vec<Tally> {
+pub fn bad_numbers(all: &mut Comparison) {
+    if !all.asks(Call::Number) {
+        return;
+    }
     for w in SIZES {
         for h in SIZES {
             for d in SIZES {
@@ -111,32 +116,12 @@ fn bad_numbers(mut all: Comparison) -> Vec<Tally> {
     all.one_bit([3, 5, 2], [0, 4, 1], 12);
     all.one_bit([5, 9, 7], [4, 0, 6], 270);
     all.one_bit([16, 16, 16], [0, 0, 0], 0);
-    all.tallies()
 }
 
-fn join(all: &mut [Tally], more: Vec<Tally>) {
-    for (tally, other) in all.iter_mut().zip(&more) {
-        tally.join(other);
-    }
-}
-
-pub fn compare(open: &(dyn Fn() -> Box<dyn Library> + Sync)) -> Vec<Tally> {
-    let workers = thread::available_parallelism().map_or(1, |n| n.get() as u32);
-    let mut all = Comparison::new(open()).tallies();
-    thread::scope(|scope| {
-        let started: Vec<_> = (0..workers).map(|i| scope.spawn(move || every_shape(Comparison::new(open()), i, workers))).collect();
-        for worker in started {
-            join(&mut all, worker.join().unwrap());
-        }
-    });
+pub fn expect(tallies: &[Tally]) {
     // 2 + .. + 16 = 135 and 1 + .. + 16 = 136: every node of every shape, each with six steps
     let every_node = 135 * 135 * 136;
-    for (tally, granted) in all.iter().zip([every_node, every_node, 6 * every_node]) {
-        tally.expect_granted(granted);
-    }
-    join(&mut all, bad_numbers(Comparison::new(open())));
-    for tally in &all {
-        tally.expect_refused(&[1, 5]);
-    }
-    all
+    tallies[Call::Number as usize].expect(every_node, 100_000, &[1, 5]);
+    tallies[Call::Place as usize].expect(every_node, 3_000, &[1, 5]);
+    tallies[Call::Step as usize].expect(6 * every_node, 100_000, &[1, 5]);
 }

@@ -14,6 +14,11 @@ pub struct Mesh {
     beside: Vec<Vec<Place>>,
 }
 
+/// Whether each size is in its range.
+pub fn in_range(size: [u32; 3]) -> bool {
+    (0..3).all(|axis| size[axis] >= LEAST[axis] && size[axis] <= GREATEST)
+}
+
 fn distance(p: Place, q: Place) -> u32 {
     p[0].abs_diff(q[0]) + p[1].abs_diff(q[1]) + p[2].abs_diff(q[2])
 }
@@ -21,10 +26,8 @@ fn distance(p: Place, q: Place) -> u32 {
 impl Mesh {
     /// The mesh of these sizes, or none where one is outside its range.
     pub fn new(size: [u32; 3]) -> Option<Mesh> {
-        for axis in 0..3 {
-            if size[axis] < LEAST[axis] || size[axis] > GREATEST {
-                return None;
-            }
+        if !in_range(size) {
+            return None;
         }
         let mut places = Vec::new();
         for z in 0..size[2] {
