@@ -1,71 +1,50 @@
--- What a granted check says, and that it is granted where that holds. Assumes nothing.
-use mathlib.Core.Path.{_≡_, refl}
+-- Checks as statements, for `simp`: a chain of checks is granted exactly where each of them says yes. Assumes nothing.
+use mathlib.Core.Path.{_≡_, refl, subst}
 use mathlib.Core.Logic.{_↔_}
 use mathlib.Core.Bool.{Bool, true, false, not, cond}
-use mathlib.Core.List.{List, [], _∷_}
-use Prim.Native.Nat.{ℕ, zero, suc, _<_, _≤_}
+use mathlib.Core.List.{List}
+use Prim.Native.Nat.{ℕ, _<_}
 use native.Mathlib.Omega.{arith}
-use lib.Dec.{T, not-T, ltb, ltb→lt, nltb→le}
+use borrow.Author.Tests.{ltb-false, le-ltb}
+use lib.Dec.{T, ltb}
 use lib.ListN.{length, getD}
-use Rattle.mesh.specs.Mesh.{inRange, InRange}
+use Rattle.mesh.specs.Mesh.{InRange}
 use Rattle.mesh.specs.Cells.{badCell, firstBad}
 use Rattle.mesh.specs.Answers.{_andThen_, unless, checkSizes, checkCells}
 use Rattle.mesh.specs.declared.Sizes.{Sizes}
 use Rattle.mesh.specs.declared.Refusal.{Refusal}
-use Rattle.mesh.specs.declared.Refusal.the-variants.{BadSizes, BadCell}
+use Rattle.mesh.specs.declared.Refusal.the-variants.{BadCell}
 use Rattle.mesh.specs.declared.Answer.{Answer}
 use Rattle.mesh.specs.declared.Answer.the-variants.{Done, Refused}
-use Rattle.mesh.proofs.Tests.{T-and, T-le}
-
-never : {A : Type 0} (r : Refusal) → Refused r ≡ Done → A
-never r e = let z : _≡_ {A = ℕ} 0 1 = cc in absurd (omega arith)
+use Rattle.mesh.proofs.Tests.{holds-true}
+use Rattle.mesh.proofs.Answers.{split, ok-of, sizes-granted, sizes-is, NoneBelow, first-below, first-is}
 
 pub both-done : (a b : Answer) → (a andThen b ≡ Done) ↔ ((a ≡ Done) × (b ≡ Done))
-both-done Done b = (λ e. (refl, e), λ q. q .1)
-both-done (Refused r) b = (λ e. never r e, λ q. q .0)
+both-done a b = (split a b, λ q. rw (q .0) (q .1))
 
 pub unless-done : (t : Bool) (r : Refusal) → (unless t r ≡ Done) ↔ T t
-unless-done true r = (λ e. tt, λ t. refl)
-unless-done false r = (λ e. never r e, λ t. absurd t)
+unless-done t r = (λ e. holds-true t .1 (ok-of t r e), λ h. rw (holds-true t .0 h))
 
 pub sizes-done : (S : Sizes) → (checkSizes S ≡ Done) ↔ InRange S
-unfolding inRange
-sizes-done S = (
-  λ e.
-      let (((a, b), (c, d)), (f, g)) = simp (T-and, T-le) at (unless-done (inRange S) BadSizes .0 e) in
-      record { w-lo = a; w-hi = b; h-lo = c; h-hi = d; d-lo = f; d-hi = g },
-  λ r. unless-done (inRange S) BadSizes .1 (simp (T-and, T-le) (((r .w-lo, r .w-hi), (r .h-lo, r .h-hi)), (r .d-lo, r .d-hi))),
+sizes-done S = (sizes-granted S, λ r. rw (sizes-is S r))
+
+pub fails-false : (t : Bool) → T (not t) ↔ (t ≡ false)
+fails-false true = (λ h. absurd h, λ e. subst T e tt)
+fails-false false = (λ h. refl, λ e. tt)
+
+pub cells-done : (S : Sizes) (cells : List ℕ)
+    → (checkCells S cells ≡ Done) ↔ ((k : ℕ) → k < length cells → T (not (badCell S k (getD cells k 0))))
+cells-done S cells = (
+  λ e k h.
+      let first = firstBad (badCell S) cells in
+      let long = ltb-false first (length cells) (none (ltb first (length cells)) (BadCell first) e) in
+      fails-false (badCell S k (getD cells k 0)) .1 (first-below (badCell S) cells k (omega arith)),
+  λ g.
+      let below : NoneBelow (badCell S) cells (length cells) = λ k h. fails-false (badCell S k (getD cells k 0)) .0 (g k h) in
+      let e = first-is (badCell S) cells (length cells) (omega arith) below (λ h. absurd (omega arith)) in
+      rw (le-ltb (firstBad (badCell S) cells) (length cells) (omega arith)),
 )
-
--- ---- no cell is bad
-
-abbrev pub NoneBad : (ℕ → ℕ → Bool) → List ℕ → Type 0
-NoneBad bad l = (k : ℕ) → k < length l → T (not (bad k (getD l k 0)))
-
-first-done : (bad : ℕ → ℕ → Bool) (l : List ℕ) → (length l ≤ firstBad bad l) ↔ NoneBad bad l
-unfolding firstBad
-first-done bad [] = (λ h k l. absurd (omega arith), λ f. omega arith)
-first-done bad (c ∷ cs) = split (bad 0 c) refl (first-done (λ k. bad (suc k)) cs)
   where
-    split : (t : Bool) → bad 0 c ≡ t → (length cs ≤ firstBad (λ k. bad (suc k)) cs) ↔ NoneBad (λ k. bad (suc k)) cs
-        → (suc (length cs) ≤ cond t 0 (suc (firstBad (λ k. bad (suc k)) cs))) ↔ NoneBad bad (c ∷ cs)
-    split true e ih = (λ h. absurd (omega arith), λ f. absurd (rw e at (f 0 (omega arith))))
-    split false e ih = (λ h. at (ih .0 (omega arith)), λ f. let q = ih .1 (λ k l. f (suc k) (omega arith)) in omega arith)
-      where
-        at : NoneBad (λ k. bad (suc k)) cs → NoneBad bad (c ∷ cs)
-        at g zero l = rw e tt
-        at g (suc k) l = g k (omega arith)
-
-pub cells-done : (S : Sizes) (cells : List ℕ) → (checkCells S cells ≡ Done) ↔ NoneBad (badCell S) cells
-cells-done S cells = split (firstBad (badCell S) cells) (first-done (badCell S) cells)
-  where
-    passed : (t : Bool) (r : Refusal) → (cond t (Refused r) Done ≡ Done) ↔ T (not t)
-    passed true r = (λ e. never r e, λ t. absurd t)
-    passed false r = (λ e. tt, λ t. refl)
-
-    split : (n : ℕ) → (length cells ≤ n) ↔ NoneBad (badCell S) cells
-        → (cond (ltb n (length cells)) (Refused (BadCell n)) Done ≡ Done) ↔ NoneBad (badCell S) cells
-    split n q = (
-      λ e. q .0 (nltb→le n (length cells) (passed (ltb n (length cells)) (BadCell n) .0 e)),
-      λ g. passed (ltb n (length cells)) (BadCell n) .1 (not-T (ltb n (length cells)) λ t. let l = q .1 g in omega (arith, ltb→lt n (length cells) t)),
-    )
+    none : (t : Bool) (r : Refusal) → cond t (Refused r) Done ≡ Done → t ≡ false
+    none true r e = let z : _≡_ {A = ℕ} 0 1 = cc in absurd (omega arith)
+    none false r e = refl

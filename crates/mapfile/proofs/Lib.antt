@@ -1,4 +1,9 @@
+pub mod Stored
 pub mod Checks
+pub mod Refusals
+pub mod Reasons
 pub mod Bytes
 pub mod Reading
 pub mod Writing
+pub mod Promise
+pub mod Impostors

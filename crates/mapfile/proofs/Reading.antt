@@ -6,7 +6,7 @@ use mathlib.Core.List.{List, [], _∷_, _++_}
 use Prim.Native.Nat.{ℕ, _+_, _-_, _<_, _≤_}
 use native.Mathlib.Omega.{arith}
 use lib.Dec.{T, eqb}
-use lib.ListN.{length, getD, take, drop, length-append, length-take, length-drop, take-append-drop}
+use lib.ListN.{length, getD, take, drop, length-append, length-drop, take-append-drop}
 use lib.Seq.{ext-getD, getD-drop, drop-drop, getD-append-add, take-at, drop-at}
 use Rattle.mesh.specs.Tools.{table}
 use Rattle.mesh.specs.Mesh.{InRange, nodes}
@@ -18,10 +18,12 @@ use Rattle.mesh.specs.declared.Answer.the-variants.{Done, Refused}
 use Rattle.mesh.proofs.Tests.{T-and, T-eq, T-le, T-all}
 use Rattle.mesh.proofs.Tables.{length-table, getD-table}
 use Rattle.mesh.proofs.Numbers.{nodes-le}
-use Rattle.mapfile.specs.Format.{fileMark, fileLimit, fourBytes, distance, trailer, fileOf, MapFile, trailerAt, hasMark, sizesIn, distanceIn, cellsIn}
-use Rattle.mapfile.specs.Entry.{mapRead, readCheck, readAnswer, readWritten, readOut}
+use Rattle.mapfile.specs.Format.{fileMark, fileLimit, fourBytes, distance, trailer, fileOf, MapFile}
+use Rattle.mapfile.specs.Format.{trailerAt, hasMark, sizesIn, distanceIn, cellsIn}
+use Rattle.mapfile.specs.Entry.{mapRead, checkFrame, checkTrailer, readCheck, readAnswer, readWritten, readOut}
 use Rattle.mapfile.specs.declared.MapRead.the-variants.{Read}
 use Rattle.mapfile.proofs.Checks.{both-done, unless-done, sizes-done, cells-done}
+use Rattle.mapfile.proofs.Refusals.{cells-size}
 use Rattle.mapfile.proofs.Bytes.{bytes-of, number-back}
 
 -- what each check of the reader grants
@@ -37,7 +39,7 @@ pub record Granted (file : List ℕ) (room : ℕ) : Type 0 where
   pub good : (k : ℕ) → k < length (cellsIn file) → T (not (badCell (sizesIn file) k (getD (cellsIn file) k 0)))
 
 pub T-granted : (file : List ℕ) (room : ℕ) → (readCheck file room ≡ Done) ↔ Granted file room
-unfolding readCheck
+unfolding readCheck checkTrailer checkFrame
 T-granted file room = (
   λ h.
       let ((((((a, b), (c, d)), e), (f, g)), i), j) = simp (both-done, sizes-done, cells-done, unless-done, T-and, T-eq, T-le) at h in
@@ -56,7 +58,9 @@ module _ (file : List ℕ) (bytes : (i : ℕ) → getD file i 0 < 256) (room : �
   -- the last twelve bytes, one by one
   end : drop (length file - 12) file ≡ table (trailerAt file) 12
   end = ext-getD 0 (drop (length file - 12) file) (table (trailerAt file) 12) (simp (length-drop, length-table) (omega (arith, g .least)))
-      λ i h. getD-drop (length file - 12) file i 0 ∙ sym (getD-table (trailerAt file) 12 i 0 (omega (arith, length-drop (length file - 12) file, g .least)))
+      λ i h.
+      getD-drop (length file - 12) file i 0
+      ∙ sym (getD-table (trailerAt file) 12 i 0 (omega (arith, length-drop (length file - 12) file, g .least)))
 
   mark-byte : (i : ℕ) → i < 4 → trailerAt file (8 + i) ≡ getD fileMark i 0
   unfolding hasMark
@@ -77,10 +81,6 @@ module _ (file : List ℕ) (bytes : (i : ℕ) → getD file i 0 < 256) (room : �
       (ap (λ (l : List ℕ). (S .w ∷ S .h ∷ S .d ∷ 0 ∷ l) ++ fileMark) (sym distance-bytes))
 
   -- the cells stand between the notes and the trailer
-  cells-count : length (cellsIn file) ≡ nodes S
-  unfolding cellsIn
-  cells-count = simp (length-take, length-drop) (omega (arith, g .inside))
-
   its-parts : file ≡ take (length file - distance S) file ++ fileOf S (cellsIn file)
   unfolding cellsIn
   its-parts =
@@ -98,8 +98,8 @@ module _ (file : List ℕ) (bytes : (i : ℕ) → getD file i 0 < 256) (room : �
         parts = its-parts;
         fits = g .fits;
         in-range = g .in-range;
-        count = cells-count;
-        good = λ k h. g .good k (omega (arith, cells-count));
+        count = cells-size file (g .inside);
+        good = λ k h. g .good k (omega (arith, cells-size file (g .inside)));
       }
 
 -- ---- a map file is read
@@ -144,20 +144,28 @@ module _ (S : Sizes) (notes cells : List ℕ) (r : InRange S) (whole : length ce
       record {
         least = omega (arith, size);
         fits = fits;
-        mark = T-all 4 (λ i. eqb (trailerAt its (8 + i)) (getD fileMark i 0)) .1 λ i h. T-eq (trailerAt its (8 + i)) (getD fileMark i 0) .1 (mark-at i);
+        mark =
+            T-all 4 (λ i. eqb (trailerAt its (8 + i)) (getD fileMark i 0)) .1
+            λ i h. T-eq (trailerAt its (8 + i)) (getD fileMark i 0) .1 (mark-at i);
         zero-byte = byte 3;
         in-range = subst InRange (sym sizes-are) r;
         says = distance-is ∙ sym (ap distance sizes-are);
         inside = omega (arith, size, same);
         holds = omega (arith, same);
-        good = rw cells-are (subst (λ (Z : Sizes). (k : ℕ) → k < length cells → T (not (badCell Z k (getD cells k 0)))) (sym sizes-are) λ k h. good k (omega (arith, whole)));
+        good =
+            rw cells-are
+            (subst (λ (Z : Sizes). (k : ℕ) → k < length cells → T (not (badCell Z k (getD cells k 0)))) (sym sizes-are)
+            λ k h. good k (omega (arith, whole)));
       }
 
 -- ---- the two together
 
 read-as : (a : Answer) (Z S : Sizes) → (mapRead a Z ≡ Read S) ↔ ((a ≡ Done) × (Z ≡ S))
 read-as Done Z S = (λ e. (refl, (cc)), λ q. ap Read (q .1))
-read-as (Refused r) Z S = (λ e. let z : _≡_ {A = ℕ} 0 1 = cc in absurd (omega arith), λ q. let z : _≡_ {A = ℕ} 0 1 = cc (q .0) in absurd (omega arith))
+read-as (Refused r) Z S = (
+  λ e. let z : _≡_ {A = ℕ} 0 1 = cc in absurd (omega arith),
+  λ q. let z : _≡_ {A = ℕ} 0 1 = cc (q .0) in absurd (omega arith),
+)
 
 module _ (file : List ℕ) {S : Sizes} {cells : List ℕ} (f : MapFile S cells file) where
   pub file-sizes : sizesIn file ≡ S

@@ -7,17 +7,22 @@ use lib.ListN.{length, take, drop, length-append}
 use lib.Seq.{take-at}
 use Rattle.mesh.specs.Mesh.{nodes}
 use Rattle.mesh.specs.Answers.{granted, numbered, checkMap}
-use Rattle.mesh.proofs.Tests.{T-eq, T-le}
-use Rattle.mesh.proofs.Numbers.{nodes-le}
 use Rattle.mesh.specs.declared.Sizes.{Sizes}
 use Rattle.mesh.specs.declared.Answer.{Answer}
 use Rattle.mesh.specs.declared.Answer.the-variants.{Done, Refused}
 use Rattle.mesh.specs.declared.Numbered.the-variants.{Number}
+use Rattle.mesh.proofs.Tests.{T-eq, T-le}
+use Rattle.mesh.proofs.Numbers.{nodes-le}
 use Rattle.mapfile.specs.Format.{distance, trailer, fileOf, MapFile}
 use Rattle.mapfile.specs.Entry.{readAnswer, readOut, writeCheck, writeAnswer, writeWritten, writeOut}
 use Rattle.mapfile.specs.declared.MapRead.the-variants.{Read}
 use Rattle.mapfile.proofs.Checks.{both-done, unless-done, sizes-done, cells-done}
 use Rattle.mapfile.proofs.Reading.{file-read, read-out}
+
+-- a number is answered only where all is granted
+pub granted-number : (a : Answer) (m n : ℕ) → numbered a m ≡ Number n → (a ≡ Done) × (m ≡ n)
+granted-number Done m n e = (refl, (cc))
+granted-number (Refused r) m n e = let z : _≡_ {A = ℕ} 0 1 = cc in absurd (omega arith)
 
 module _ (S : Sizes) (cells : List ℕ) where
   -- what the writer grants is a map file, of N + 12 bytes
@@ -50,7 +55,3 @@ module _ (S : Sizes) (cells : List ℕ) where
       ap (λ (a : Answer). take n (granted a (fileOf S cells ++ drop (distance S) out) out)) done
       ∙ take-at (fileOf S cells) (drop (distance S) out) n (file-size (f .count) ∙ long) in
       rw front (file-read (fileOf S cells) f (length buffer) h, read-out (fileOf S cells) f buffer h)
-    where
-      granted-number : (a : Answer) (m k : ℕ) → numbered a m ≡ Number k → (a ≡ Done) × (m ≡ k)
-      granted-number Done m k e = (refl, (cc))
-      granted-number (Refused r) m k e = let z : _≡_ {A = ℕ} 0 1 = cc in absurd (omega arith)

@@ -34,14 +34,18 @@ mapRead Done S = Read S
 mapRead (Refused r) S = NotRead r
 
 -- "Reading a file: length, mark and zero byte (11), sizes (1), distance not N + 12 or beyond the file (11), room (3), cells (4)."
-unfoldable pub readCheck : List ℕ → ℕ → Answer
-readCheck file room =
-    unless (between trailerLength fileLimit (length file)) BadFile
-    andThen unless (hasMark file && eqb (trailerAt file 3) 0) BadFile
+unfoldable pub checkFrame : List ℕ → Answer
+checkFrame file =
+    unless (between trailerLength fileLimit (length file)) BadFile andThen unless (hasMark file && eqb (trailerAt file 3) 0) BadFile
+
+unfoldable pub checkTrailer : List ℕ → Answer
+checkTrailer file =
+    checkFrame file
     andThen checkSizes (sizesIn file)
     andThen unless (eqb (distanceIn file) (distance (sizesIn file)) && leb (distance (sizesIn file)) (length file)) BadFile
-    andThen checkRoom (nodes (sizesIn file)) room
-    andThen checkCells (sizesIn file) (cellsIn file)
+
+unfoldable pub readCheck : List ℕ → ℕ → Answer
+readCheck file room = checkTrailer file andThen checkRoom (nodes (sizesIn file)) room andThen checkCells (sizesIn file) (cellsIn file)
 
 unfoldable pub readAnswer : List ℕ → ℕ → MapRead
 readAnswer file room = mapRead (readCheck file room) (sizesIn file)

@@ -33,8 +33,11 @@ abbrev pub distance : Sizes → ℕ
 distance S = nodes S + trailerLength
 
 -- "W, H, D, a zero byte, a little-endian 32-bit distance .., and the four bytes"
+abbrev pub sizesAndDistance : Sizes → List ℕ
+sizesAndDistance S = S .w ∷ S .h ∷ S .d ∷ 0 ∷ fourBytes (distance S)
+
 unfoldable pub trailer : Sizes → List ℕ
-trailer S = S .w ∷ S .h ∷ S .d ∷ 0 ∷ fourBytes (distance S) ++ fileMark
+trailer S = sizesAndDistance S ++ fileMark
 
 -- "The writer writes no notes."
 abbrev pub fileOf : Sizes → List ℕ → List ℕ

@@ -1,2 +1,4 @@
+pub mod Stored
 pub mod Format
 pub mod Entry
+pub mod Promise

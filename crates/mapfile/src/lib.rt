@@ -1,6 +1,18 @@
-// The map file: what reading one answers. Its specs/ have the format and the calls' equations.
+// The map file: its reader and its writer. The specs/ have the format and the calls' equations.
 use mesh::Refusal;
 use mesh::Sizes;
+
+pub mod reader;
+pub mod storing;
+pub mod writer;
+
+// The bytes that end every map file.
+pub const MARK: [u8; 4] = *b"FLD1";
+
+// The length of the trailer, and the greatest length of a file.
+pub const TRAILER: usize = 12;
+
+pub const FILE_LIMIT: usize = 65536;
 
 // The sizes of the map that was read, or a refusal.
 pub enum MapRead {

@@ -96,15 +96,6 @@ NoneBelow bad l i = (k : ℕ) → k < i → bad k (getD l k 0) ≡ false
 abbrev pub IsBad : (ℕ → ℕ → Bool) → List ℕ → ℕ → Type 0
 IsBad bad l k = k < length l → bad k (getD l k 0) ≡ true
 
-pub first-le : (bad : ℕ → ℕ → Bool) (l : List ℕ) → firstBad bad l ≤ length l
-unfolding firstBad
-first-le bad [] = omega arith
-first-le bad (c ∷ cs) = go (bad 0 c) (first-le (λ k. bad (suc k)) cs)
-  where
-    go : (t : Bool) {n : ℕ} → n ≤ length cs → cond t 0 (suc n) ≤ suc (length cs)
-    go true h = omega arith
-    go false h = omega arith
-
 pub first-below : (bad : ℕ → ℕ → Bool) (l : List ℕ) → NoneBelow bad l (firstBad bad l)
 unfolding firstBad
 first-below bad [] k h = absurd (omega arith)
@@ -123,6 +114,15 @@ first-at bad (c ∷ cs) h = go (bad 0 c) refl _ (first-at (λ k. bad (suc k)) cs
     go : (t : Bool) → bad 0 c ≡ t → (n : ℕ) → IsBad (λ k. bad (suc k)) cs n → IsBad bad (c ∷ cs) (cond t 0 (suc n))
     go true e n rest h = e
     go false e n rest h = rest (le-of-suc-le-suc h)
+
+pub first-le : (bad : ℕ → ℕ → Bool) (l : List ℕ) → firstBad bad l ≤ length l
+unfolding firstBad
+first-le bad [] = omega arith
+first-le bad (c ∷ cs) = go (bad 0 c) (first-le (λ k. bad (suc k)) cs)
+  where
+    go : (t : Bool) {n : ℕ} → n ≤ length cs → cond t 0 (suc n) ≤ suc (length cs)
+    go true h = omega arith
+    go false h = omega arith
 
 -- and no other number is so
 pub first-is : (bad : ℕ → ℕ → Bool) (l : List ℕ) (i : ℕ) → i ≤ length l → NoneBelow bad l i → IsBad bad l i → firstBad bad l ≡ i

@@ -1,0 +1,164 @@
+-- Which refusal stands, check by check, and what the checks before it have granted. Assumes nothing.
+use mathlib.Core.Path.{_≡_, ap, _∙_}
+use mathlib.Core.Bool.{true, false}
+use mathlib.Core.List.{List, _++_}
+use Prim.Native.Nat.{ℕ, _+_, _-_, _≤_, _<_}
+use native.Mathlib.Omega.{arith}
+use borrow.Author.Tests.{lt-leb, le-leb, eq-eqb, ne-eqb}
+use lib.Dec.{eqb}
+use lib.ListN.{length, take, drop, length-append, length-take, length-drop}
+use Rattle.mesh.specs.Mesh.{inRange, InRange, nodes}
+use Rattle.mesh.specs.Answers.{checkMap}
+use Rattle.mesh.specs.declared.Sizes.{Sizes}
+use Rattle.mesh.specs.declared.Refusal.{Refusal}
+use Rattle.mesh.specs.declared.Refusal.the-variants.{BadSizes, NoRoom, BadFile}
+use Rattle.mesh.specs.declared.Answer.the-variants.{Done, Refused}
+use Rattle.mesh.specs.declared.Numbered.the-variants.{Number, NotNumbered}
+use Rattle.mesh.proofs.Answers.{sizes-is}
+use Rattle.mesh.proofs.Tests.{T-and, T-eq, T-le}
+use Rattle.mapfile.specs.Stored.{stored}
+use Rattle.mapfile.specs.Format.{fileLimit, distance, trailer, trailerAt, hasMark, sizesIn, distanceIn, cellsIn}
+use Rattle.mapfile.specs.Entry.{checkFrame, checkTrailer, readCheck, readAnswer, readWritten, readOut}
+use Rattle.mapfile.specs.Entry.{writeCheck, writeAnswer, writeWritten, writeOut}
+use Rattle.mapfile.specs.declared.MapRead.the-variants.{Read, NotRead}
+use Rattle.mapfile.proofs.Stored.{stored-next, stored-front}
+use Rattle.mapfile.proofs.Checks.{both-done, unless-done, sizes-done}
+
+module _ (file : List ℕ) where
+  -- ---- length, mark and zero byte
+
+  pub frame-short : length file < 12 → checkFrame file ≡ Refused BadFile
+  unfolding checkFrame
+  frame-short h = rw (lt-leb 12 (length file) h)
+
+  pub frame-long : 12 ≤ length file → fileLimit < length file → checkFrame file ≡ Refused BadFile
+  unfolding checkFrame
+  frame-long l h = rw (le-leb 12 (length file) l, lt-leb (length file) fileLimit h)
+
+  module _ (least : 12 ≤ length file) (most : length file ≤ fileLimit) where
+    pub frame-mark : hasMark file ≡ false → checkFrame file ≡ Refused BadFile
+    unfolding checkFrame
+    frame-mark e = rw (le-leb 12 (length file) least, le-leb (length file) fileLimit most, e)
+
+    pub frame-zero : hasMark file ≡ true → eqb (trailerAt file 3) 0 ≡ false → checkFrame file ≡ Refused BadFile
+    unfolding checkFrame
+    frame-zero m e = rw (le-leb 12 (length file) least, le-leb (length file) fileLimit most, m, e)
+
+    pub frame-granted : hasMark file ≡ true → eqb (trailerAt file 3) 0 ≡ true → checkFrame file ≡ Done
+    unfolding checkFrame
+    frame-granted m e = rw (le-leb 12 (length file) least, le-leb (length file) fileLimit most, m, e)
+
+  pub frame-least : checkFrame file ≡ Done → 12 ≤ length file
+  unfolding checkFrame
+  frame-least e = let ((l, m), q) = simp (both-done, unless-done, T-and, T-le, T-eq) at e in l
+
+  -- ---- after these the sizes, and the distance
+
+  pub trailer-stands : (r : Refusal) → checkFrame file ≡ Refused r → checkTrailer file ≡ Refused r
+  unfolding checkTrailer
+  trailer-stands r e = rw e
+
+  pub trailer-sizes : checkFrame file ≡ Done → inRange (sizesIn file) ≡ false → checkTrailer file ≡ Refused BadSizes
+  unfolding checkTrailer
+  trailer-sizes f e = rw (f, e)
+
+  module _ (framed : checkFrame file ≡ Done) (sized : inRange (sizesIn file) ≡ true) where
+    pub trailer-other : (distanceIn file ≡ distance (sizesIn file) → ⊥) → checkTrailer file ≡ Refused BadFile
+    unfolding checkTrailer
+    trailer-other n = rw (framed, sized, ne-eqb (distanceIn file) (distance (sizesIn file)) n)
+
+    pub trailer-beyond : distanceIn file ≡ distance (sizesIn file) → length file < distance (sizesIn file) → checkTrailer file ≡ Refused BadFile
+    unfolding checkTrailer
+    trailer-beyond e h = rw (framed, sized, eq-eqb (distanceIn file) (distance (sizesIn file)) e, lt-leb (distance (sizesIn file)) (length file) h)
+
+    pub trailer-granted : distanceIn file ≡ distance (sizesIn file) → distance (sizesIn file) ≤ length file → checkTrailer file ≡ Done
+    unfolding checkTrailer
+    trailer-granted e h = rw (framed, sized, eq-eqb (distanceIn file) (distance (sizesIn file)) e, le-leb (distance (sizesIn file)) (length file) h)
+
+  -- what has been granted then
+  pub trailer-says : checkTrailer file ≡ Done → (12 ≤ length file) × InRange (sizesIn file) × (distance (sizesIn file) ≤ length file)
+  unfolding checkTrailer
+  trailer-says e = let ((f, s), (d, l)) = simp (both-done, sizes-done, unless-done, T-and, T-le, T-eq) at e in (frame-least f, s, l)
+
+  -- ---- after these the room, and the cells
+
+  pub read-stands : (room : ℕ) (r : Refusal) → checkTrailer file ≡ Refused r → readCheck file room ≡ Refused r
+  unfolding readCheck
+  read-stands room r e = rw e
+
+  pub read-room : (room : ℕ) → checkTrailer file ≡ Done → room < nodes (sizesIn file) → readCheck file room ≡ Refused NoRoom
+  unfolding readCheck
+  read-room room e h = rw (e, lt-leb (nodes (sizesIn file)) room h)
+
+  -- N cells stand before the trailer where there is room for them
+  pub cells-size : distance (sizesIn file) ≤ length file → length (cellsIn file) ≡ nodes (sizesIn file)
+  unfolding cellsIn
+  cells-size h = simp (length-take, length-drop) (omega arith)
+
+  -- a check of the whole map repeats what is known, and then looks at the cells
+  pub read-cells : (room : ℕ) → checkTrailer file ≡ Done → nodes (sizesIn file) ≤ room → readCheck file room ≡ checkMap (sizesIn file) (cellsIn file)
+  unfolding readCheck checkMap
+  read-cells room e h =
+      let q = trailer-says e in
+      let n = nodes (sizesIn file) in
+      rw (e, le-leb n room h, sizes-is (sizesIn file) (q .1), eq-eqb (length (cellsIn file)) n (cells-size (q .2)))
+
+  -- the bytes that the code takes are the cells
+  pub cells-part : (n : ℕ) → n ≡ nodes (sizesIn file) → take n (drop (length file - (n + 12)) file) ≡ cellsIn file
+  unfolding cellsIn
+  cells-part n e = rw e
+
+  pub not-read : (room : ℕ) (r : Refusal) → readCheck file room ≡ Refused r → readAnswer file room ≡ NotRead r
+  unfolding readAnswer
+  not-read room r e = rw e
+
+  pub is-read : (room : ℕ) → readCheck file room ≡ Done → readAnswer file room ≡ Read (sizesIn file)
+  unfolding readAnswer
+  is-read room e = rw e
+
+  -- what is stored is what the answer says
+  pub read-stored : (out : List ℕ) → readCheck file (length out) ≡ Done → stored out 0 (cellsIn file) ≡ readOut file out
+  unfolding readWritten readCheck
+  read-stored out e =
+      let (t, r) = simp both-done at e in
+      rw e (stored-front out (cellsIn file) ∙ ap (λ (n : ℕ). cellsIn file ++ drop n out) (cells-size (trailer-says (t .0) .2)))
+
+-- ---- writing: the map, and the room
+
+module _ (S : Sizes) (cells : List ℕ) (room : ℕ) where
+  pub write-stands : (r : Refusal) → checkMap S cells ≡ Refused r → writeCheck S cells room ≡ Refused r
+  unfolding writeCheck
+  write-stands r e = rw e
+
+  pub write-room : checkMap S cells ≡ Done → room < distance S → writeCheck S cells room ≡ Refused NoRoom
+  unfolding writeCheck
+  write-room e h = rw (e, lt-leb (distance S) room h)
+
+  pub write-granted : checkMap S cells ≡ Done → distance S ≤ room → writeCheck S cells room ≡ Done
+  unfolding writeCheck
+  write-granted e h = rw (e, le-leb (distance S) room h)
+
+  pub not-written : (r : Refusal) → writeCheck S cells room ≡ Refused r → writeAnswer S cells room ≡ NotNumbered r
+  unfolding writeAnswer
+  not-written r e = rw e
+
+  pub is-written : writeCheck S cells room ≡ Done → writeAnswer S cells room ≡ Number (distance S)
+  unfolding writeAnswer
+  is-written e = rw e
+
+  pub write-says : writeCheck S cells room ≡ Done → InRange S × (length cells ≡ nodes S) × (distance S ≤ room)
+  unfolding writeCheck checkMap
+  write-says e = let (((s, l), g), r) = simp (both-done, sizes-done, unless-done, T-eq, T-le) at e in (s, l, r)
+
+pub write-stored : (S : Sizes) (cells out : List ℕ) → writeCheck S cells (length out) ≡ Done
+    → stored (stored out 0 cells) (nodes S) (trailer S) ≡ writeOut S cells out
+unfolding writeWritten trailer
+write-stored S cells out e =
+    let q = write-says S cells (length out) e in
+    let at : nodes S ≡ 0 + length cells = omega (arith, q .1) in
+    let size : length (cells ++ trailer S) ≡ distance S = length-append cells (trailer S) ∙ ap (λ (n : ℕ). n + 12) (q .1) in
+    rw e
+    (ap (λ (n : ℕ). stored (stored out 0 cells) n (trailer S)) at
+    ∙ stored-next out 0 cells (omega (arith, q .1, q .2)) (trailer S)
+    ∙ stored-front out (cells ++ trailer S)
+    ∙ ap (λ (n : ℕ). cells ++ trailer S ++ drop n out) size)

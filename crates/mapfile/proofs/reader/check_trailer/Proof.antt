@@ -1,0 +1,113 @@
+-- `mapfile::reader::check_trailer` meets its contract: each check is run where those before it are granted. Assumes nothing.
+use mathlib.Core.Path.{_≡_, sym, ap, _∙_}
+use mathlib.Core.Bool.{true}
+use Prim.Native.Nat.{ℕ, _+_}
+use borrow.Author.Tests.{not-true, not-false}
+use borrow.Author.Needs.{needs}
+use denote.Ref.{now}
+use Rattle.mesh.specs.Mesh.{inRange, nodes}
+use Rattle.mesh.specs.declared.Answer.the-variants.{Done}
+use Rattle.mesh.proofs.Answers.{sizes-of}
+use Rattle.mapfile.specs.Format.{distance, sizesIn}
+use Rattle.mapfile.specs.Entry.{checkFrame}
+use Rattle.mapfile.proofs.Refusals.{frame-least, trailer-stands, trailer-sizes, trailer-other, trailer-beyond, trailer-granted}
+use Rattle.mapfile.proofs.reader.check_trailer.Statement.{statement}
+use Rattle.mapfile.proofs.reader.check_trailer.Tie as tie
+
+-- past the frame, and past the sizes
+framed : (c : tie.After-enum-told) → checkFrame (now (c .before .before .before .before .args .file)) ≡ Done
+framed c = sym (c .before .before .check-frame .ensures) ∙ c .enum-told .given .1
+
+sized : (c : tie.Else1) → inRange (sizesIn (now (c .before .before .before .before .before .before .before .args .file))) ≡ true
+sized c = ap inRange (sym (c .before .before .sizes-in .ensures)) ∙ sym (c .before .in-range .ensures) ∙ not-false _ (c .if1 .left)
+
+-- the distance that the code computes
+distance-is : (c : tie.After-distance-in) →
+    let file = now (c .before .before .before .before .before .before .before .before .before .args .file) in
+    c .before .nodes .result + 12 ≡ distance (sizesIn file)
+distance-is c = ap (λ (n : ℕ). n + 12) (c .before .nodes .ensures .0) ∙ ap distance (c .before .before .before .before .sizes-in .ensures)
+
+check-frame-requires : tie.Need-check-frame-requires
+check-frame-requires c κs = search needs
+
+enum-told : tie.Need-enum-told
+enum-told c = search needs
+
+enum-told-2 : tie.Need-enum-told-2
+enum-told-2 c = search needs
+
+returns : tie.Need-returns
+returns c =
+    let file = now (c .before .before .before .before .args .file) in
+    let (r, e) = c .enum-told2 .given in
+    e ∙ sym (trailer-stands file (r .0) (sym (c .before .before .check-frame .ensures) ∙ e))
+
+sizes-in-requires : tie.Need-sizes-in-requires
+sizes-in-requires c κs = frame-least (now (c .before .before .before .before .args .file)) (framed c)
+
+in-range-requires : tie.Need-in-range-requires
+in-range-requires c κs = search needs
+
+returns-2 : tie.Need-returns-2
+returns-2 c =
+    let past = c .before .before .before in
+    let e = ap inRange (sym (c .before .before .sizes-in .ensures)) ∙ sym (c .before .in-range .ensures) ∙ not-true _ (c .if1 .taken) in
+    sym (trailer-sizes (now (past .before .before .before .before .args .file)) (framed past) e)
+
+nodes-requires : tie.Need-nodes-requires
+nodes-requires c κs = sizes-of (c .before .before .sizes-in .result) (sym (c .before .in-range .ensures) ∙ not-false _ (c .if1 .left))
+
+add-distance : tie.Need-add-distance
+add-distance c = search needs
+
+distance-in-requires : tie.Need-distance-in-requires
+distance-in-requires c κs =
+    let past = c .before .before .before .before in
+    frame-least (now (past .before .before .before .before .args .file)) (framed past)
+
+returns-3 : tie.Need-returns-3
+returns-3 c =
+    let d = c .before in
+    let file = now (d .before .before .before .before .before .before .before .before .before .args .file) in
+    let past = d .before .before in
+    sym
+    (trailer-other file (framed (past .before .before .before)) (sized past)
+    (λ e. c .if2 .taken (d .distance-in .ensures ∙ e ∙ sym (distance-is d))))
+
+returns-4 : tie.Need-returns-4
+returns-4 c =
+    let d = c .before .before in
+    let file = now (d .before .before .before .before .before .before .before .before .before .args .file) in
+    let past = d .before .before in
+    sym
+    (trailer-beyond file (framed (past .before .before .before)) (sized past)
+    (sym (d .distance-in .ensures) ∙ c .before .if2 .left ∙ distance-is d)
+    (rw (distance-is d) at (c .if3 .taken)))
+
+returns-5 : tie.Need-returns-5
+returns-5 c =
+    let d = c .before .before in
+    let file = now (d .before .before .before .before .before .before .before .before .before .args .file) in
+    let past = d .before .before in
+    sym
+    (trailer-granted file (framed (past .before .before .before)) (sized past)
+    (sym (d .distance-in .ensures) ∙ c .before .if2 .left ∙ distance-is d)
+    (rw (distance-is d) at (c .if3 .left)))
+
+pub check-trailer-spec : {M : Type 1} → statement M
+check-trailer-spec =
+    tie.close
+    (tie.spec
+    check-frame-requires
+    enum-told
+    enum-told-2
+    returns
+    sizes-in-requires
+    in-range-requires
+    returns-2
+    nodes-requires
+    add-distance
+    distance-in-requires
+    returns-3
+    returns-4
+    returns-5)

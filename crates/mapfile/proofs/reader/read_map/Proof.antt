@@ -1,0 +1,95 @@
+-- `mapfile::reader::read_map` meets its contract: what is copied are the cells, where all is granted. Assumes nothing.
+use mathlib.Core.Path.{_≡_, sym, ap, _∙_}
+use native.Mathlib.Omega.{arith}
+use borrow.Author.Needs.{needs}
+use denote.Ref.{now}
+use lib.ListN.{length}
+use Rattle.mesh.specs.Mesh.{nodes}
+use Rattle.mesh.specs.declared.Answer.the-variants.{Done}
+use Rattle.mesh.proofs.Answers.{kept}
+use Rattle.mapfile.specs.declared.MapRead.the-variants.{Read}
+use Rattle.mapfile.specs.Stored.{stored}
+use Rattle.mapfile.specs.Format.{sizesIn}
+use Rattle.mapfile.specs.Entry.{readCheck, readWritten}
+use Rattle.mapfile.proofs.Reading.{Granted, T-granted}
+use Rattle.mapfile.proofs.Refusals.{not-read, is-read, read-stored, cells-part, cells-size}
+use Rattle.mapfile.proofs.reader.read_map.Statement.{statement}
+use Rattle.mapfile.proofs.reader.read_map.Tie as tie
+
+-- past all checks
+done : (c : tie.After-enum-told) →
+    let a = c .before .before .before .before .before .args in readCheck (now (a .file)) (length (now (a .cells))) ≡ Done
+done c = sym (c .before .before .check-file .ensures) ∙ c .enum-told .given .1
+
+granted : (c : tie.After-enum-told) → let a = c .before .before .before .before .before .args in Granted (now (a .file)) (length (now (a .cells)))
+granted c = let a = c .before .before .before .before .before .args in T-granted (now (a .file)) (length (now (a .cells))) .0 (done c)
+
+-- as many nodes as the trailer says
+count-is : (c : tie.After-nodes) → c .nodes .result ≡ nodes (sizesIn (now (c .before .before .before .before .before .before .before .args .file)))
+count-is c = c .nodes .ensures .0 ∙ ap nodes (c .before .sizes-in .ensures)
+
+check-file-requires : tie.Need-check-file-requires
+check-file-requires c κs = search needs
+
+enum-known-answer : tie.Need-enum-known-answer
+enum-known-answer c = search needs
+
+returns : tie.Need-returns
+returns c =
+    let a = c .before .before .before .before .before .before .args in
+    let file = now (a .file) in
+    let (r, e) = c .before .answer .given in
+    let no = sym (c .before .before .before .check-file .ensures) ∙ e in (
+      sym (not-read file (length (now (a .cells))) (r .0) no),
+      sym (kept (readCheck file (length (now (a .cells)))) (r .0) (readWritten file (now (a .cells))) (now (a .cells)) no),
+    )
+
+enum-told : tie.Need-enum-told
+enum-told c = search needs
+
+sizes-in-requires : tie.Need-sizes-in-requires
+sizes-in-requires c κs = granted c .least
+
+nodes-requires : tie.Need-nodes-requires
+nodes-requires c κs = rw (c .sizes-in .ensures) (granted (c .before) .in-range)
+
+cells-in-requires : tie.Need-cells-in-requires
+cells-in-requires c κs = rw (count-is c) (granted (c .before .before) .inside)
+
+put-requires : tie.Need-put-requires
+put-requires c κs =
+    let past = c .before .before in
+    let a = past .before .before .before .before .before .before .before .args in
+    let file = now (a .file) in
+    let g = granted (past .before .before) in
+    let e = ap length (c .before .cells-in .ensures ∙ cells-part file (past .nodes .result) (count-is past)) in
+    omega (arith, e, cells-size file (g .inside), g .holds)
+
+same-length : tie.Need-same-length
+same-length c = search needs
+
+returns-2 : tie.Need-returns-2
+returns-2 c =
+    let past = c .before .before .before .before .before in
+    let told = past .before .before in
+    let a = told .before .before .before .before .before .args in
+    let file = now (a .file) in
+    let cells = c .before .before .before .before .cells-in .ensures ∙ cells-part file (past .nodes .result) (count-is past) in (
+      ap Read (past .before .sizes-in .ensures) ∙ sym (is-read file (length (now (a .cells))) (done told)),
+      c .before .before .put .ensures ∙ ap (stored (now (a .cells)) 0) cells ∙ read-stored file (now (a .cells)) (done told),
+    )
+
+pub read-map-spec : {M : Type 1} → statement M
+read-map-spec =
+    tie.close
+    (tie.spec
+    check-file-requires
+    enum-known-answer
+    returns
+    enum-told
+    sizes-in-requires
+    nodes-requires
+    cells-in-requires
+    put-requires
+    same-length
+    returns-2)

@@ -1,0 +1,97 @@
+-- `mapfile::writer::write_map` meets its contract: the cells and then the trailer are stored, where all is granted. Assumes nothing.
+use mathlib.Core.List.{List}
+use mathlib.Core.Path.{_≡_, sym, ap, _∙_}
+use Prim.Native.Nat.{ℕ, _+_}
+use native.Mathlib.Omega.{arith}
+use borrow.Author.Needs.{needs}
+use denote.Ref.{now}
+use lib.ListN.{length}
+use Rattle.mesh.specs.declared.Numbered.the-variants.{Number}
+use Rattle.mesh.specs.declared.Answer.the-variants.{Done}
+use Rattle.mesh.proofs.Answers.{kept}
+use Rattle.mapfile.specs.Format.{trailer}
+use Rattle.mapfile.specs.Stored.{stored}
+use Rattle.mapfile.specs.Entry.{writeCheck, writeWritten}
+use Rattle.mapfile.proofs.Refusals.{not-written, is-written, write-says, write-stored}
+use Rattle.mapfile.proofs.writer.write_map.Statement.{statement}
+use Rattle.mapfile.proofs.writer.write_map.Tie as tie
+
+-- past all checks
+done : (c : tie.After-enum-told) →
+    let a = c .before .before .before .before .before .args in writeCheck (a .s) (now (a .cells)) (length (now (a .out))) ≡ Done
+done c = sym (c .before .before .check-write .ensures) ∙ c .enum-told .given .1
+
+check-write-requires : tie.Need-check-write-requires
+check-write-requires c κs = search needs
+
+enum-known-answer : tie.Need-enum-known-answer
+enum-known-answer c = search needs
+
+returns : tie.Need-returns
+returns c =
+    let a = c .before .before .before .before .before .before .args in
+    let room = length (now (a .out)) in
+    let (r, e) = c .before .answer .given in
+    let no = sym (c .before .before .before .check-write .ensures) ∙ e in (
+      sym (not-written (a .s) (now (a .cells)) room (r .0) no),
+      sym (kept (writeCheck (a .s) (now (a .cells)) room) (r .0) (writeWritten (a .s) (now (a .cells)) (now (a .out))) (now (a .out)) no),
+    )
+
+enum-told : tie.Need-enum-told
+enum-told c = search needs
+
+nodes-requires : tie.Need-nodes-requires
+nodes-requires c κs =
+    let a = c .before .before .before .before .before .args in
+    write-says (a .s) (now (a .cells)) (length (now (a .out))) (done c) .0
+
+put-requires : tie.Need-put-requires
+put-requires c κs =
+    let told = c .before .before in
+    let a = told .before .before .before .before .before .args in
+    let q = write-says (a .s) (now (a .cells)) (length (now (a .out))) (done told) in
+    omega (arith, q .1, q .2)
+
+put-trailer-requires : tie.Need-put-trailer-requires
+put-trailer-requires c κs =
+    let first = c .before .before .before in
+    let told = first .before .before .before in
+    let a = told .before .before .before .before .before .args in
+    let q = write-says (a .s) (now (a .cells)) (length (now (a .out))) (done told) in
+    (q .0, omega (arith, q .2, first .before .before .nodes .ensures .0, first .put .kept .1 .0))
+
+add-t7 : tie.Need-add-t7
+add-t7 c = search needs
+
+same-length : tie.Need-same-length
+same-length c = search needs
+
+returns-2 : tie.Need-returns-2
+returns-2 c =
+    let last = c .before .before in
+    let first = last .before .before .before .before in
+    let count = first .before .before .nodes .ensures .0 in
+    let told = first .before .before .before in
+    let a = told .before .before .before .before .before .args in
+    let out = now (a .out) in (
+      ap (λ (n : ℕ). Number (n + 12)) count ∙ sym (is-written (a .s) (now (a .cells)) (length out) (done told)),
+      last .put-trailer .ensures
+          ∙ ap (λ (l : List ℕ). stored l (first .before .before .nodes .result) (trailer (a .s))) (first .put .ensures)
+          ∙ ap (λ (n : ℕ). stored (stored out 0 (now (a .cells))) n (trailer (a .s))) count
+          ∙ write-stored (a .s) (now (a .cells)) out (done told),
+    )
+
+pub write-map-spec : {M : Type 1} → statement M
+write-map-spec =
+    tie.close
+    (tie.spec
+    check-write-requires
+    enum-known-answer
+    returns
+    enum-told
+    nodes-requires
+    put-requires
+    put-trailer-requires
+    add-t7
+    same-length
+    returns-2)

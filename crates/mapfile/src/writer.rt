@@ -1,0 +1,72 @@
+// Writing a map file.
+use crate::MARK;
+use crate::TRAILER;
+use crate::storing::put;
+use mesh::Answer;
+use mesh::Numbered;
+use mesh::Refusal;
+use mesh::Sizes;
+use mesh::cells::check_map;
+ghost use mathlib.Core.Path.{_≡_};
+ghost use Prim.Native.Nat.{_+_, _≤_};
+ghost use lib.ListN.{length};
+ghost use Rattle.mesh.specs.Mesh.{InRange};
+ghost use Rattle.mapfile.specs.Stored.{stored};
+ghost use Rattle.mapfile.specs.Format.{sizesAndDistance, trailer};
+ghost use Rattle.mapfile.specs.Entry.{writeCheck, writeAnswer, writeOut};
+
+// What stands before the mark in a trailer.
+fn sizes_and_distance(s: Sizes) -> [u8; 8]
+    requires { ⌜ InRange s ⌝ }
+    ensures { λ r. ⌜ r ≡ sizesAndDistance s ⌝ }
+{
+    let n = s.nodes() + TRAILER;
+    [
+        s.w as u8,
+        s.h as u8,
+        s.d as u8,
+        0,
+        (n % 256) as u8,
+        (n / 256 % 256) as u8,
+        (n / 65536 % 256) as u8,
+        (n / 16777216 % 256) as u8,
+    ]
+}
+
+// The map, and the room.
+fn check_write(s: Sizes, cells: &[u8], room: usize) -> Answer
+    ensures { λ r. ⌜ r ≡ writeCheck s (now (cells .entry)) room ⌝ }
+{
+    let map = check_map(s, cells);
+    let Answer::Done = map else {
+        return map;
+    };
+    if s.nodes() + TRAILER > room {
+        return Answer::Refused(Refusal::NoRoom);
+    }
+    Answer::Done
+}
+
+// Stores the trailer, from a place on.
+fn put_trailer(s: Sizes, out: &mut [u8], at: usize)
+    requires { ⌜ InRange s × (at + 12 ≤ length (now out)) ⌝ }
+    ensures { λ _. ⌜ now (out .exit) ≡ stored (now (out .entry)) at (trailer s) ⌝ }
+{
+    put(&sizes_and_distance(s), out, at);
+    put(&MARK, out, at + 8);
+}
+
+// Writes a map file without notes to the front of the lent bytes; its length. Refusals 1, 2, 4, 3.
+pub fn write_map(s: Sizes, cells: &[u8], out: &mut [u8]) -> Numbered
+    ensures { λ r. ⌜ (r ≡ writeAnswer s (now (cells .entry)) (length (now (out .entry))))
+        × (now (out .exit) ≡ writeOut s (now (cells .entry)) (now (out .entry))) ⌝ }
+{
+    let answer = check_write(s, cells, out.len());
+    if let Answer::Refused(r) = answer {
+        return Numbered::NotNumbered(r);
+    }
+    let n = s.nodes();
+    put(cells, out, 0);
+    put_trailer(s, out, n);
+    Numbered::Number(n + TRAILER)
+}
