@@ -1,1 +1,4 @@
 pub mod Entry
+pub mod Sweep
+pub mod Join
+pub mod Promise

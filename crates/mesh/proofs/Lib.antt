@@ -9,4 +9,6 @@ pub mod Marks
 pub mod Bytes
 pub mod ByteRule
 pub mod Whole
+pub mod Bits
+pub mod Fill
 pub mod Answers

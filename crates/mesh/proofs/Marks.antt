@@ -10,14 +10,14 @@ use Rattle.mesh.specs.Mesh.{Axis, on, every, nodes, Inside, number, plac
 use Rattle.mesh.specs.Steps.{ahead, behind, reversed}
 use Rattle.mesh.specs.Cells.{Map, faulty, works, wall}
 use Rattle.mesh.specs.Marks.{counted, rule, blocksBy, blocks, marked, stuckWithin, stuck, Kind, useless, cantReach, heading, holds}
-use Rattle.mesh.specs.Marks.{Ruled, Rules, byteOf, markAt, marksOf, toGo, shut}
+use Rattle.mesh.specs.Marks.{Ruled, Rules, Closed, byteOf, markAt, marksOf, toGo, shut}
 use Rattle.mesh.proofs.Tests.{bool-ext, holds-true}
 use Rattle.mesh.proofs.Tables.{length-table, getD-table}
 use Rattle.mesh.proofs.Numbers.{number-lt, place-of}
-use Rattle.mesh.proofs.Steps.{reversed-behind, put}
-use Rattle.mesh.proofs.Rule.{rule-same, marked-iff, flat-heading}
+use Rattle.mesh.proofs.Steps.{reversed-behind, put, next-in}
+use Rattle.mesh.proofs.Rule.{rule-same, blocks-grows, marked-iff, flat-heading}
 use Rattle.mesh.proofs.Left.{to-go-in, next-left}
-use Rattle.mesh.proofs.Stuck.{stuck-is, unique}
+use Rattle.mesh.proofs.Stuck.{stuck-is, unique, least}
 use Rattle.mesh.specs.declared.Place.{Place}
 use Rattle.mesh.specs.declared.Next.the-variants.{At, Edge}
 
@@ -52,6 +52,33 @@ rules-only m o l marks r = elim [
     only o mark f = unique m o mark λ q i. bool-ext (mark q) (marked m o mark q)
         (λ t. marked-iff m o mark q .1 (f q i .0 t))
         (λ t. f q i .1 (marked-iff m o mark q .0 t))
+
+-- and they are the least: marks that leave out no node which a rule marks have all of them
+pub rules-least : (m : Map) (o : ℕ) → o ≤ 7 → (marks : Kind → Place → Bool) → Closed m o marks
+    → (k : Kind) (p : Place) → Inside (m .sizes) p → T (holds m o p k) → T (marks k p)
+rules-least m o l marks c = elim [
+  | useless ↦ least m o (marks useless) λ q i t. c .of-useless q i (marked-iff m o (marks useless) q .0 t)
+  | cantReach ↦ least m (reversed o) (marks cantReach) λ q i t. c .of-cant-reach q i
+      (subst (λ (side : Axis → ℕ). Ruled m side (marks cantReach) q) (fun-ext (reversed-behind o l)) (marked-iff m (reversed o) (marks cantReach) q .0 t))
+]
+
+-- the rules are about the nodes of the mesh alone
+pub rules-same : (m : Map) (o : ℕ) (A B : Kind → Place → Bool) → ((k : Kind) (p : Place) → Inside (m .sizes) p → A k p ≡ B k p)
+    → Rules m o A → Rules m o B
+rules-same m o A B e r = record {
+  of-useless = λ p i. moved useless (ahead o) p i (r .of-useless p i);
+  of-cant-reach = λ p i. moved cantReach (behind o) p i (r .of-cant-reach p i);
+}
+  where
+    ruled : (A B : Place → Bool) → ((q : Place) → Inside (m .sizes) q → A q ≡ B q) → (side : Axis → ℕ) (p : Place) → Inside (m .sizes) p
+        → Ruled m side A p → Ruled m side B p
+    ruled A B e side p i x = (x .0, λ a c. blocks-grows m A B p (side a) (λ q f. subst (λ (t : Bool). T t) (e q (next-in (m .sizes) p q i (side a) f))) (x .1 a c))
+
+    moved : (k : Kind) (side : Axis → ℕ) (p : Place) → Inside (m .sizes) p → T (A k p) ↔ Ruled m side (A k) p → T (B k p) ↔ Ruled m side (B k) p
+    moved k side p i h = (
+      λ t. ruled (A k) (B k) (e k) side p i (h .0 (subst (λ (t : Bool). T t) (sym (e k p i)) t)),
+      λ x. subst (λ (t : Bool). T t) (e k p i) (h .1 (ruled (B k) (A k) (λ q iq. sym (e k q iq)) side p i x)),
+    )
 
 -- of a working node, the mark is what the rule says
 pub works-is : (m : Map) (o : ℕ) (p : Place) → Inside (m .sizes) p → T (works m p) → stuck m o p ≡ rule (m .sizes) o (blocks m (stuck m o) p)

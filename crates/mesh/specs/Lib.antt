@@ -3,4 +3,5 @@ pub mod Mesh
 pub mod Steps
 pub mod Cells
 pub mod Marks
+pub mod Fill
 pub mod Answers

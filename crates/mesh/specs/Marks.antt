@@ -73,6 +73,11 @@ pub record Rules (m : Map) (o : ℕ) (marks : Kind → Place → Bool) : Type 0 
   pub of-useless : (p : Place) → Inside (m .sizes) p → T (marks useless p) ↔ Ruled m (ahead o) (marks useless) p
   pub of-cant-reach : (p : Place) → Inside (m .sizes) p → T (marks cantReach p) ↔ Ruled m (behind o) (marks cantReach) p
 
+-- marks that leave out no node which a rule marks, given those marks
+pub record Closed (m : Map) (o : ℕ) (marks : Kind → Place → Bool) : Type 0 where
+  pub of-useless : (p : Place) → Inside (m .sizes) p → Ruled m (ahead o) (marks useless) p → T (marks useless p)
+  pub of-cant-reach : (p : Place) → Inside (m .sizes) p → Ruled m (behind o) (marks cantReach) p → T (marks cantReach p)
+
 -- "Mark byte: 0 none, 1 faulty, 2 useless, 4 can't-reach, 6 both."
 unfoldable pub byteOf : (Kind → Bool) → ℕ
 byteOf has = 2 * bit (has useless) + 4 * bit (has cantReach)

@@ -2,12 +2,16 @@
 use mathlib.Core.Bool.{Bool, true, false, _&&_, _||_}
 use mathlib.Core.List.{List, [], _∷_}
 use Prim.Native.Nat.{ℕ, zero, suc, _+_}
-use lib.Dec.{leb}
+use lib.Dec.{leb, eqb}
 
 -- the number 1 or 0 of a test
 abbrev pub bit : Bool → ℕ
 bit true = 1
 bit false = 0
+
+-- the test of such a number
+abbrev pub one : ℕ → Bool
+one n = eqb n 1
 
 -- a test that asks b only if a holds
 abbrev pub implies : Bool → Bool → Bool

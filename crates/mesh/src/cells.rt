@@ -4,6 +4,7 @@ use crate::Refusal;
 use crate::Sizes;
 ghost use mathlib.Core.Path.{_≡_};
 ghost use lib.ListN.{length};
+ghost use Rattle.mesh.specs.Tools.{bit};
 ghost use Rattle.mesh.specs.Mesh.{nodes};
 ghost use Rattle.mesh.specs.Cells.{faultyCell, mayPass, mayEnd, badCell, firstBad};
 ghost use Rattle.mesh.specs.Answers.{checkMap};
@@ -16,6 +17,13 @@ pub fn faulty_cell(cell: u8) -> bool
     ensures { λ r. ⌜ r ≡ faultyCell cell ⌝ }
 {
     cell == 1
+}
+
+// The same as a byte, 1 or 0, for code that joins bytes without a branch.
+pub fn faulty_bit(cell: u8) -> u8
+    ensures { λ r. ⌜ r ≡ bit (faultyCell cell) ⌝ }
+{
+    if faulty_cell(cell) { 1 } else { 0 }
 }
 
 // May a path pass through the node?

@@ -1,0 +1,98 @@
+-- What two sweeps and their joining leave is what the call is to write: the marks, then the bytes that were there. Assumes nothing.
+use mathlib.Core.Path.{_≡_, refl, sym, ap, _∙_, subst}
+use mathlib.Core.Bool.{Bool, true, false, cond, _||_}
+use mathlib.Core.List.{List, _++_}
+use Prim.Native.Nat.{ℕ, _+_, _-_, _*_, _<_, _≤_}
+use native.Mathlib.Omega.{arith}
+use borrow.Author.Tests.{ltb-true, ltb-false}
+use lib.Dec.{ltb}
+use lib.ListN.{length, getD, drop, length-append, length-drop, List·getD-append}
+use lib.Seq.{ext-getD, getD-append-add, getD-drop}
+use Rattle.mesh.specs.Tools.{bit}
+use Rattle.mesh.specs.Mesh.{nodes, number, placeOf, Inside}
+use Rattle.mesh.specs.Steps.{reversed}
+use Rattle.mesh.specs.Cells.{Map, mapOf, faulty, faultyCell}
+use Rattle.mesh.specs.Marks.{toGo, shut, stuck, byteOf, markAt, marksOf}
+use Rattle.mesh.specs.Fill.{Filled}
+use Rattle.mesh.proofs.Bits.{bit-le}
+use Rattle.mesh.proofs.Numbers.{number-of, number-lt, place-in}
+use Rattle.mesh.proofs.Left.{to-go-in, to-go-back}
+use Rattle.mesh.proofs.Marks.{marks-length, marks-at}
+use Rattle.mesh.specs.declared.Sizes.{Sizes}
+use Rattle.mesh.specs.declared.Place.{Place}
+use Rattle.marks.specs.Entry.{marksWritten}
+use Rattle.marks.specs.Sweep.{Right, Swept, Room}
+use Rattle.marks.specs.Join.{markOf, markFrom, Bytes}
+
+-- ---- what is to be written
+
+module _ (S : Sizes) (cells : List ℕ) (o : ℕ) (old : List ℕ) where
+  pub written-at : (p : Place) → Inside S p → getD (marksWritten S cells o old) (number S p) 0 ≡ markAt (mapOf S cells) o p
+  unfolding marksWritten
+  written-at p i =
+      List·getD-append (marksOf (mapOf S cells) o) (drop (nodes S) old) 0 (number S p) (rw (marks-length (mapOf S cells) o) (number-lt S p i))
+      ∙ marks-at (mapOf S cells) o p i
+
+  pub written-kept : (k : ℕ) → nodes S ≤ k → getD (marksWritten S cells o old) k 0 ≡ getD old k 0
+  unfolding marksWritten
+  written-kept k l =
+      let e : nodes S + (k - nodes S) ≡ k = omega arith in
+      let q : length (marksOf (mapOf S cells) o) + (k - nodes S) ≡ k = rw (marks-length (mapOf S cells) o) e in
+      ap (λ (j : ℕ). getD (marksOf (mapOf S cells) o ++ drop (nodes S) old) j 0) (sym q)
+      ∙ getD-append-add (marksOf (mapOf S cells) o) (drop (nodes S) old) (k - nodes S) 0
+      ∙ getD-drop (nodes S) old (k - nodes S) 0
+      ∙ ap (λ (j : ℕ). getD old j 0) e
+
+  pub written-size : nodes S ≤ length old → length (marksWritten S cells o old) ≡ length old
+  unfolding marksWritten
+  written-size l = omega (arith, length-append (marksOf (mapOf S cells) o) (drop (nodes S) old), length-drop (nodes S) old, marks-length (mapOf S cells) o)
+
+-- ---- what is written
+
+-- a whole sweep has each node's byte at its number
+module _ (m : Map) (o : ℕ) (old new : List ℕ) (W : Swept m o (λ s. s .z < m .sizes .d) old new) where
+  swept-at : (k : ℕ) → k < nodes (m .sizes) → getD new k 0 ≡ bit (shut m o (placeOf (m .sizes) k))
+  swept-at k l =
+      let i : Inside (m .sizes) (placeOf (m .sizes) k) = place-in (m .sizes) k l in
+      let s : Inside (m .sizes) (toGo (m .sizes) o (placeOf (m .sizes) k)) = to-go-in (m .sizes) o (placeOf (m .sizes) k) i in
+      let r : Right m o new (toGo (m .sizes) o (placeOf (m .sizes) k)) = W .right (toGo (m .sizes) o (placeOf (m .sizes) k)) s (s .z-in) in
+      let e : toGo (m .sizes) o (toGo (m .sizes) o (placeOf (m .sizes) k)) ≡ placeOf (m .sizes) k = to-go-back (m .sizes) o (placeOf (m .sizes) k) i in
+      ap (λ (j : ℕ). getD new j 0) (sym (number-of (m .sizes) k))
+      ∙ subst (λ (p : Place). getD new (number (m .sizes) p) 0 ≡ bit (shut m o p)) e r
+
+  pub swept-bytes : nodes (m .sizes) ≤ length new → Bytes (nodes (m .sizes)) new
+  swept-bytes l = record { long = l; bits = λ k h. rw (swept-at k h) (bit-le (shut m o (placeOf (m .sizes) k))) }
+
+-- of a faulty node both bytes are 1, and its mark says so
+mark-shut : (f s t : Bool) → markOf f (bit (f || s)) (bit (f || t)) ≡ cond f 1 (2 * bit s + 4 * bit t)
+mark-shut true s t = refl
+mark-shut false s t = refl
+
+module _ (S : Sizes) (o : ℕ) (cells old mid none behind new : List ℕ) where
+  abbrev m : Map
+  m = mapOf S cells
+
+  joined-at : Swept m o (λ s. s .z < S .d) old mid → Swept m (reversed o) (λ s. s .z < S .d) none behind
+      → (k : ℕ) → k < nodes S → markFrom cells mid behind k ≡ markAt m o (placeOf S k)
+  unfolding markAt byteOf
+  joined-at A B k l =
+      let p : Place = placeOf S k in
+      let e : faultyCell (getD cells k 0) ≡ faulty m p = ap (λ (j : ℕ). faultyCell (getD cells j 0)) (sym (number-of S k)) in
+      rw (e, swept-at m o old mid A k l, swept-at m (reversed o) none behind B k l) (mark-shut (faulty m p) (stuck m o p) (stuck m (reversed o) p))
+
+  pub written : Room S cells old → length new ≡ length old → Swept m o (λ s. s .z < S .d) old mid
+      → Swept m (reversed o) (λ s. s .z < S .d) none behind → Filled (λ i. i) (markFrom cells mid behind) mid new (nodes S)
+      → new ≡ marksWritten S cells o old
+  written R long A B F = ext-getD 0 new (marksWritten S cells o old) (long ∙ sym (written-size S cells o old (R .out-long))) λ k h. go k (ltb k (nodes S)) refl
+    where
+      low : (k : ℕ) → k < nodes S → getD new k 0 ≡ getD (marksWritten S cells o old) k 0
+      low k l =
+          F .at k l
+          ∙ joined-at A B k l
+          ∙ sym (ap (λ (j : ℕ). getD (marksWritten S cells o old) j 0) (sym (number-of S k)) ∙ written-at S cells o old (placeOf S k) (place-in S k l))
+
+      go : (k : ℕ) (t : Bool) → ltb k (nodes S) ≡ t → getD new k 0 ≡ getD (marksWritten S cells o old) k 0
+      go k true e = low k (ltb-true k (nodes S) e)
+      go k false e =
+          let l : nodes S ≤ k = ltb-false k (nodes S) e in
+          F .kept k (λ j h x. omega arith) ∙ A .kept k l ∙ sym (written-kept S cells o old k l)

@@ -1,0 +1,86 @@
+-- `marks::entry::mark_all` meets its contract: a sweep for each mark, then their joining. Assumes nothing.
+use mathlib.Core.Path.{_∙_, subst}
+use Prim.Native.Nat.{ℕ}
+use native.Mathlib.Omega.{arith}
+use borrow.Author.Needs.{needs}
+use denote.Ref.{now}
+use Rattle.mesh.specs.Fill.{Filled}
+use Rattle.mesh.proofs.Numbers.{nodes-le}
+use Rattle.marks.specs.Join.{markFrom}
+use Rattle.marks.proofs.Written.{swept-bytes, written}
+use Rattle.marks.proofs.entry.mark_all.Statement.{statement}
+use Rattle.marks.proofs.entry.mark_all.Tie as tie
+
+blank-requires : tie.Need-blank-requires
+blank-requires c κs = search needs
+
+sub-reversed : tie.Need-sub-reversed
+sub-reversed c = search needs
+
+sweep-requires : tie.Need-sweep-requires
+sweep-requires c κs = search needs
+
+slice-aggregate-sweep : tie.Need-slice-aggregate-sweep
+slice-aggregate-sweep c = search needs
+
+sweep-requires-2 : tie.Need-sweep-requires-2
+sweep-requires-2 c κs =
+    let s = c .before .before .before .before .before .before .before .before in
+    let r = s .pre .0 in
+    record {
+      sized = r .sized;
+      cells-long = r .cells-long;
+      out-long = omega (arith, c .before .before .before .before .before .blank .ensures, nodes-le (s .args .s) (r .sized));
+    }
+
+slice-aggregate-join : tie.Need-slice-aggregate-join
+slice-aggregate-join c = search needs
+
+nodes-requires : tie.Need-nodes-requires
+nodes-requires c κs = search needs
+
+join-requires : tie.Need-join-requires
+join-requires c κs =
+    let f = c .before .before .before .before .before .before .before .before in
+    let g = c .before .before .before .before in
+    let s = f .before .before .before .before .before in
+    let a = s .args in
+    let r = s .pre .0 in
+    let n = c .nodes .ensures .0 in
+    rw n (
+      omega (arith, r .cells-long),
+      swept-bytes _ _ _ (g .sweep2 .last .1 .1 .0) (g .sweep2 .ensures)
+          (omega (arith, f .before .before .blank .ensures, g .sweep2 .kept .1 .1 .0, nodes-le (a .s) (r .sized))),
+      swept-bytes _ _ _ (f .sweep .last .1 .1 .0) (f .sweep .ensures) (omega (arith, r .out-long, f .sweep .kept .1 .1 .0)),
+    )
+
+same-length : tie.Need-same-length
+same-length c = search needs
+
+returns : tie.Need-returns
+returns c =
+    let k = c .before .before in
+    let n = k .before in
+    let f = n .before .before .before .before .before .before .before .before in
+    let g = n .before .before .before .before in
+    let s = f .before .before .before .before .before in
+    let a = s .args in
+    written (a .s) (a .o) (now (a .cells)) (now (a .out)) (f .sweep .last .1 .1 .0) _ (g .sweep2 .last .1 .1 .0) (k .join .last .1 .1 .0)
+    (s .pre .0) (k .join .kept .1 .1 .0 ∙ f .sweep .kept .1 .1 .0) (f .sweep .ensures) (g .sweep2 .ensures)
+    (subst (λ (j : ℕ). Filled (λ i. i) (markFrom (now (a .cells)) (f .sweep .last .1 .1 .0) (g .sweep2 .last .1 .1 .0)) (f .sweep .last .1 .1 .0) (k .join .last .1 .1 .0) j)
+    (n .nodes .ensures .0) (k .join .ensures))
+
+pub mark-all-spec : {M : Type 1} → statement M
+mark-all-spec =
+    tie.close
+    (tie.spec
+    blank-requires
+    sub-reversed
+    sweep-requires
+    slice-aggregate-sweep
+    sweep-requires-2
+    slice-aggregate-join
+    nodes-requires
+    join-requires
+    same-length
+    returns)

@@ -1,0 +1,60 @@
+-- `marks::entry::marks` meets its contract: what is lent changes only where no refusal stands. Assumes nothing.
+use mathlib.Core.Path.{_≡_, _∙_, sym}
+use borrow.Author.Needs.{needs}
+use denote.Ref.{now}
+use lib.ListN.{length}
+use Rattle.mesh.specs.declared.Answer.the-variants.{Done}
+use Rattle.mesh.proofs.Answers.{kept}
+use Rattle.marks.specs.Entry.{marksAnswer, marksWritten}
+use Rattle.marks.proofs.Answer.{marks-granted}
+use Rattle.marks.proofs.entry.marks.Statement.{statement}
+use Rattle.marks.proofs.entry.marks.Tie as tie
+
+in-order : (c : tie.After-enum-told)
+    → let a = c .before .before .before .before .before .args in marksAnswer (a .s) (now (a .cells)) (a .orientation) (length (now (a .out))) ≡ Done
+in-order c = sym (c .before .before .marks-answer .ensures) ∙ c .enum-told .given .1
+
+marks-answer-requires : tie.Need-marks-answer-requires
+marks-answer-requires c κs = search needs
+
+enum-told : tie.Need-enum-told
+enum-told c = search needs
+
+enum-told-2 : tie.Need-enum-told-2
+enum-told-2 c = search needs
+
+returns : tie.Need-returns
+returns c =
+    let m = c .before .before in
+    let a = m .before .before .before .args in
+    let new = marksWritten (a .s) (now (a .cells)) (a .orientation) (now (a .out)) in
+    let e = m .marks-answer .ensures in
+    (e, sym (kept _ _ new (now (a .out)) (sym e ∙ c .enum-told2 .given .1)))
+
+mark-all-requires : tie.Need-mark-all-requires
+mark-all-requires c κs =
+    let t = c .before in
+    let a = t .before .before .before .before .before .args in
+    let g = marks-granted (a .s) (now (a .cells)) (a .orientation) (length (now (a .out))) (in-order t) in
+    (record { sized = g .map .sized; cells-long = g .map .whole; out-long = g .fits }, g .orientation)
+
+same-length : tie.Need-same-length
+same-length c = search needs
+
+returns-2 : tie.Need-returns-2
+returns-2 c =
+    let k = c .before .before in
+    let t = k .before .before in
+    (t .before .before .marks-answer .ensures, rw (in-order t) (k .mark-all .ensures))
+
+pub marks-spec : {M : Type 1} → statement M
+marks-spec =
+    tie.close
+    (tie.spec
+    marks-answer-requires
+    enum-told
+    enum-told-2
+    returns
+    mark-all-requires
+    same-length
+    returns-2)

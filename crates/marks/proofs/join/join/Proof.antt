@@ -1,0 +1,86 @@
+-- `marks::join::join` meets its contract: turn i reads byte i, which no turn before it wrote. Assumes nothing.
+use mathlib.Core.Path.{_≡_, refl, _∙_, subst}
+use Prim.Native.Nat.{ℕ, _-_, _≤_}
+use native.Mathlib.Omega.{arith}
+use denote.Ref.{now}
+use lib.ListN.{getD}
+use Rattle.mesh.specs.Fill.{Filled}
+use Rattle.mesh.proofs.Fill.{fill-none, fill-more}
+use Rattle.marks.specs.Join.{markFrom}
+use Rattle.marks.proofs.join.join.Statement.{statement}
+use Rattle.marks.proofs.join.join.Tie as tie
+
+abbrev Inv-loop : tie.InvT-loop
+Inv-loop cells behind out₀ n i₀ out i = (i ≤ n) × Filled (λ j. j) (markFrom cells out₀ behind) out₀ out i
+
+abbrev μ-loop : tie.MeasureT-loop
+μ-loop cells behind out₀ n i₀ out i = n - i
+
+unread : (at : tie.At-loop Inv-loop μ-loop) → getD (at .loop .out) (at .loop .i) 0 ≡ getD (now (at .before .before .before .before .args .out)) (at .loop .i) 0
+unread at = at .loop .inv .1 .kept (at .loop .i) (λ j h e. omega arith)
+
+loop-holds : tie.Need-loop-holds Inv-loop μ-loop
+loop-holds c = (omega arith, fill-none _ _ _)
+
+shared-slice-read-mark-byte : tie.Need-shared-slice-read-mark-byte Inv-loop μ-loop
+shared-slice-read-mark-byte c = omega arith
+
+slice-read-mark-byte : tie.Need-slice-read-mark-byte Inv-loop μ-loop
+slice-read-mark-byte c = omega arith
+
+shared-slice-read-mark-byte-2 : tie.Need-shared-slice-read-mark-byte-2 Inv-loop μ-loop
+shared-slice-read-mark-byte-2 c = omega arith
+
+mark-byte-requires : tie.Need-mark-byte-requires Inv-loop μ-loop
+mark-byte-requires c κs =
+    let at = c .before .before .before .before in
+    let s = at .before .before .before .before in
+    let l = c .before .before .before .loop-test .taken in
+    (rw (unread at) (s .pre .2 .bits (at .loop .i) l), s .pre .1 .bits (at .loop .i) l)
+
+slice-write-out : tie.Need-slice-write-out Inv-loop μ-loop
+slice-write-out c = omega arith
+
+add-i : tie.Need-add-i Inv-loop μ-loop
+add-i c = omega arith
+
+loop-less : tie.Need-loop-less Inv-loop μ-loop
+loop-less c = omega arith
+
+loop-again : tie.Need-loop-again Inv-loop μ-loop
+loop-again c =
+    let at = c .before .before .before .before .before in
+    let F = at .loop .inv .1 in
+    let long = at .before .before .before .before .pre .2 .long in (
+      omega arith,
+      fill-more _ _ _ _ (at .loop .i) (at .loop .i) (c .mark-byte .result) F (omega (arith, F .size)) (λ j h e. omega arith) refl
+          (c .mark-byte .ensures ∙ (rw (unread at))),
+    )
+
+same-length : tie.Need-same-length Inv-loop μ-loop
+same-length c = c .before .loop .inv .1 .size
+
+returns : tie.Need-returns Inv-loop μ-loop
+returns c =
+    let at = c .before in
+    let a = at .before .before .before .before .args in
+    let e : at .loop .i ≡ a .n = omega arith in
+    subst (λ (n : ℕ). Filled (λ i. i) (markFrom (now (a .cells)) (now (a .out)) (now (a .behind))) (now (a .out)) (at .loop .out) n) e (at .loop .inv .1)
+
+pub join-spec : {M : Type 1} → statement M
+join-spec =
+    tie.close
+    (tie.spec
+    Inv-loop
+    μ-loop
+    loop-holds
+    shared-slice-read-mark-byte
+    slice-read-mark-byte
+    shared-slice-read-mark-byte-2
+    mark-byte-requires
+    slice-write-out
+    add-i
+    loop-less
+    loop-again
+    same-length
+    returns)

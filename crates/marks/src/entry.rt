@@ -1,0 +1,60 @@
+// The call for the marks of a map. It takes every input.
+use crate::join::join;
+use crate::sweep::sweep;
+use mesh::Answer;
+use mesh::Refusal;
+use mesh::Sizes;
+use mesh::cells::check_map;
+ghost use mathlib.Core.Path.{_≡_};
+ghost use Prim.Native.Nat.{_≤_};
+ghost use lib.ListN.{length};
+ghost use Rattle.marks.specs.Entry.{marksAnswer, marksWritten, marksOut};
+ghost use Rattle.marks.specs.Sweep.{Room};
+
+// Refusals 1, 2, 4, 5 and 3.
+fn marks_answer(s: Sizes, cells: &[u8], orientation: usize, room: usize) -> Answer
+    ensures { λ r. ⌜ r ≡ marksAnswer s (now (cells .entry)) orientation room ⌝ }
+{
+    let a = check_map(s, cells);
+    let Answer::Done = a else {
+        return a;
+    };
+    if orientation > 7 {
+        return Answer::Refused(Refusal::BadNumber);
+    }
+    if room < s.nodes() {
+        return Answer::Refused(Refusal::NoRoom);
+    }
+    Answer::Done
+}
+
+fn blank() -> [u8; 4096]
+    ensures { λ r. ⌜ length r ≡ 4096 ⌝ }
+{
+    [0u8; 4096]
+}
+
+// The marks of a map that is in order.
+fn mark_all(s: Sizes, cells: &[u8], o: usize, out: &mut [u8])
+    requires { ⌜ Room s (now cells) (now out) × (o ≤ 7) ⌝ }
+    ensures { λ _. ⌜ now (out .exit) ≡ marksWritten s (now (cells .entry)) o (now (out .entry)) ⌝ }
+{
+    let mut behind = blank();
+    let reversed = 7 - o;
+    sweep(s, cells, out, o);
+    sweep(s, cells, &mut behind, reversed);
+    join(cells, &behind, out, s.nodes());
+}
+
+// The mark bytes of the map, in node order, at the front of out.
+pub fn marks(s: Sizes, cells: &[u8], orientation: usize, out: &mut [u8]) -> Answer
+    ensures { λ r. ⌜ r ≡ marksAnswer s (now (cells .entry)) orientation (length (now (out .entry))) ⌝ }
+    ensures { λ _. ⌜ now (out .exit) ≡ marksOut s (now (cells .entry)) orientation (now (out .entry)) ⌝ }
+{
+    let a = marks_answer(s, cells, orientation, out.len());
+    let Answer::Done = a else {
+        return a;
+    };
+    mark_all(s, cells, orientation, out);
+    a
+}

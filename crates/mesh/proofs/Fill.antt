@@ -1,0 +1,37 @@
+-- A loop that stores v i at f i, for i from 0: one store more, and what was right stays right. Assumes nothing.
+use mathlib.Core.Path.{_≡_, refl, ap, _∙_}
+use mathlib.Core.Logic.{inl, inr}
+use mathlib.Core.List.{List}
+use Prim.Native.Nat.{ℕ, _+_, _<_}
+use native.Mathlib.Omega.{arith}
+use borrow.Author.Count.{below-more}
+use lib.ListN.{length, getD, set, length-set}
+use lib.Seq.{getD-set-same, getD-set-other}
+use lib.Dec.{eqb}
+use Rattle.mesh.specs.Tools.{any}
+use Rattle.mesh.specs.Fill.{Filled}
+use Rattle.mesh.proofs.Tests.{T-any, T-eq, T-no, tried}
+
+pub fill-none : (f v : ℕ → ℕ) (old : List ℕ) → Filled f v old old 0
+fill-none f v old = record { at = λ i h. absurd (omega arith); kept = λ k h. refl; size = refl }
+
+pub fill-more : (f v : ℕ → ℕ) (old new : List ℕ) (n k x : ℕ) → Filled f v old new n → k < length new
+    → ((i : ℕ) → i < n → f i ≡ k → ⊥) → k ≡ f n → x ≡ v n → Filled f v old (set new k x) (n + 1)
+fill-more f v old new n k x F l apart is e = record {
+  at = below-more (λ i. getD (set new k x) (f i) 0 ≡ v i) n
+      (λ i h. getD-set-other new k (f i) x 0 (apart i h) ∙ F .at i h)
+      (rw (← is) (getD-set-same new k x 0 l ∙ e));
+  kept = λ j h. getD-set-other new k j x 0 (λ q. h n (omega arith) (q ∙ is)) ∙ F .kept j (λ i l. h i (omega arith));
+  size = length-set new k x ∙ F .size;
+}
+
+-- where each place of the loop gets the value that is right there, no right value is lost
+pub fill-safe : (f v : ℕ → ℕ) (old new : List ℕ) (n : ℕ) → Filled f v old new n → (k x : ℕ) → ((i : ℕ) → i < n → k ≡ f i → v i ≡ x)
+    → getD old k 0 ≡ x → getD new k 0 ≡ x
+fill-safe f v old new n F k x right e = elim (tried (any n λ i. eqb k (f i))) [
+  | inl t ↦
+      let (i, l, h) = T-any n (λ i. eqb k (f i)) .0 t in
+      let q : k ≡ f i = T-eq k (f i) .0 h in
+      ap (λ (j : ℕ). getD new j 0) q ∙ F .at i l ∙ right i l q
+  | inr t ↦ F .kept k (λ i l q. T-no (any n λ i. eqb k (f i)) .0 t (T-any n (λ i. eqb k (f i)) .1 (i, l, T-eq k (f i) .1 q))) ∙ e
+]
