@@ -1,0 +1,24 @@
+-- `text::say_both` meets its contract. Assumes nothing.
+use native.Mathlib.Omega.{arith}
+use borrow.Author.Needs.{needs}
+use Rattle.text.proofs.Saying.{said-next}
+use Rattle.text.proofs.say_both.Statement.{statement}
+use Rattle.text.proofs.say_both.Tie as tie
+
+say-requires : tie.Need-say-requires
+say-requires c κs = search needs
+
+say-number-requires : tie.Need-say-number-requires
+say-number-requires c κs = search needs
+
+same-length : tie.Need-same-length
+same-length c = search needs
+
+returns : tie.Need-returns
+returns c =
+    let number = c .before .before in
+    let word = number .before .before .before .before in
+    said-next (omega (arith, word .before .before .before .before .pre)) (word .say .ensures) (number .say-number .ensures)
+
+pub say-both-spec : {M : Type 1} → statement M
+say-both-spec = tie.close (tie.spec say-requires say-number-requires same-length returns)
