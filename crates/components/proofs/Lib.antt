@@ -4,3 +4,13 @@ pub mod Joined
 pub mod Numbers
 pub mod Extremes
 pub mod Records
+pub mod Counts
+pub mod Around
+pub mod Parts
+pub mod Layouts
+pub mod Spots
+pub mod Boxes
+pub mod Labels
+pub mod Few
+pub mod Nodes
+pub mod Outcomes

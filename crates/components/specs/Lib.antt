@@ -3,3 +3,8 @@ pub mod Touch
 pub mod Components
 pub mod Promise
 pub mod Entry
+pub mod Grid
+pub mod Layout
+pub mod Flood
+pub mod Label
+pub mod Outcome

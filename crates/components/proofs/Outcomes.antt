@@ -1,0 +1,137 @@
+-- Which refusal stands, and that what is computed is what the call's equations say. Assumes nothing.
+use mathlib.Core.Path.{_≡_, refl, sym, ap, _∙_, subst}
+use mathlib.Core.Logic.{_⊎_, inl, inr}
+use mathlib.Core.Bool.{Bool, true, false}
+use mathlib.Core.List.{List, [], _∷_, _++_}
+use Prim.Native.Nat.{ℕ, zero, suc, _+_, _-_, _≤_, _<_}
+use native.Mathlib.Omega.{arith}
+use borrow.Author.Tests.{le-leb, lt-leb}
+use lib.Dec.{T, ltb, leb, ltb→lt, nltb→le}
+use lib.ListN.{length, getD, take, drop, length-append, length-drop, List·getD-append}
+use lib.Seq.{ext-getD, getD-append-add, getD-drop}
+use Rattle.mesh.specs.Tools.{table}
+use Rattle.mesh.specs.Mesh.{InRange, nodes, placeOf}
+use Rattle.mesh.specs.Cells.{mapOf}
+use Rattle.mesh.specs.Marks.{marksOf}
+use Rattle.mesh.specs.Answers.{granted, numbered, answerValue, _andThen_, checkMap, checkOrientation, checkRoom}
+use Rattle.mesh.specs.declared.Sizes.{Sizes}
+use Rattle.mesh.specs.declared.Refusal.{Refusal}
+use Rattle.mesh.specs.declared.Refusal.the-variants.{NoRoom}
+use Rattle.mesh.specs.declared.Answer.{Answer}
+use Rattle.mesh.specs.declared.Answer.the-variants.{Done, Refused}
+use Rattle.mesh.specs.declared.Numbered.the-variants.{Number, NotNumbered}
+use Rattle.mesh.proofs.Tests.{tried}
+use Rattle.mesh.proofs.Tables.{length-table, getD-table}
+use Rattle.mesh.proofs.Numbers.{nodes-le}
+use Rattle.mesh.proofs.Answers.{split, map-granted}
+use Rattle.mesh.proofs.Marks.{marks-length}
+use Rattle.marks.specs.Entry.{marksAnswer}
+use Rattle.components.specs.Components.{tableOf, recordsOf, howMany}
+use Rattle.components.specs.Entry.{componentsCheck, componentsAnswer, tableWritten}
+use Rattle.components.specs.Grid.{gridSize, unseen, spot, gridAt}
+use Rattle.components.specs.Layout.{Copied}
+use Rattle.components.specs.Label.{Labelled}
+use Rattle.components.specs.Outcome.{Computed}
+use Rattle.components.specs.declared.Component.{Component}
+use Rattle.components.specs.declared.Outcome.{Outcome}
+use Rattle.components.proofs.Nodes.{numbers, as-defined}
+
+-- what is written to the front of a list, the rest of which stays
+pub front : (t old new : List ℕ) (n : ℕ) → length t ≡ n → n ≤ length old → length new ≡ length old
+    → ((k : ℕ) → k < n → getD new k 0 ≡ getD t k 0) → ((k : ℕ) → n ≤ k → getD new k 0 ≡ getD old k 0) → new ≡ t ++ drop n old
+front t old new n lt fits long low high = ext-getD 0 new (t ++ drop n old) (omega (arith, length-append t (drop n old), length-drop n old)) λ k h. elim (tried (ltb k n)) [
+  | inl u ↦ let l = ltb→lt k n u in low k l ∙ sym (List·getD-append t (drop n old) 0 k (omega arith))
+  | inr u ↦
+      let l = nltb→le k n u in
+      let e : n + (k - n) ≡ k = omega arith in
+      high k l ∙ sym (subst (λ (i : ℕ). getD (t ++ drop n old) i 0 ≡ getD old k 0) (omega arith)
+      (getD-append-add t (drop n old) (k - n) 0 ∙ getD-drop n old (k - n) 0 ∙ ap (λ (i : ℕ). getD old i 0) e))
+]
+
+module _ (S : Sizes) (cells : List ℕ) (o : ℕ) (old : List ℕ) (room : ℕ) where
+  abbrev marks : List ℕ
+  marks = marksOf (mapOf S cells) o
+
+  abbrev check : Answer
+  check = componentsCheck S cells o (length old) room
+
+  -- ---- which refusal stands
+
+  pub sized : marksAnswer S cells o 4096 ≡ Done → InRange S
+  unfolding marksAnswer
+  sized e = map-granted S cells (split (checkMap S cells) (checkOrientation o) (split (checkMap S cells andThen checkOrientation o) (checkRoom (nodes S) 4096) e .0) .0) .sized
+
+  -- a refusal of the marks is one of this call: their room always suffices
+  pub refused-early : (r : Refusal) → marksAnswer S cells o 4096 ≡ Refused r → check ≡ Refused r
+  unfolding marksAnswer componentsCheck
+  refused-early r e = go (checkMap S cells) (checkOrientation o) refl e
+    where
+      go : (a b : Answer) → checkMap S cells ≡ a → a andThen b andThen checkRoom (nodes S) 4096 ≡ Refused r
+          → a andThen b andThen checkRoom (nodes S) (length old) andThen checkRoom (howMany S marks) room ≡ Refused r
+      go (Refused x) b f e = e
+      go Done (Refused x) f e = e
+      go Done Done f e =
+          let q : leb (nodes S) 4096 ≡ true = le-leb (nodes S) 4096 (nodes-le S (map-granted S cells f .sized)) in
+          let z : _≡_ {A = ℕ} 0 1 = cc (rw q at e) in
+          absurd (omega arith)
+
+  module _ (done : marksAnswer S cells o 4096 ≡ Done) where
+    rest : check ≡ checkRoom (nodes S) (length old) andThen checkRoom (howMany S marks) room
+    unfolding marksAnswer componentsCheck
+    rest =
+        let (a, b) = split (checkMap S cells) (checkOrientation o) (split (checkMap S cells andThen checkOrientation o) (checkRoom (nodes S) 4096) done .0) in
+        rw (a, b)
+
+    pub table-short : length old < nodes S → check ≡ Refused NoRoom
+    table-short h = rest ∙ rw (lt-leb (nodes S) (length old) h)
+
+    pub row-short : nodes S ≤ length old → room < howMany S marks → check ≡ Refused NoRoom
+    row-short h k = rest ∙ rw (le-leb (nodes S) (length old) h, lt-leb (howMany S marks) room k)
+
+    all-granted : nodes S ≤ length old → howMany S marks ≤ room → check ≡ Done
+    all-granted h k = rest ∙ rw (le-leb (nodes S) (length old) h, le-leb (howMany S marks) room k)
+
+  -- ---- what is computed
+
+  pub refused-computed : (r : Refusal) → check ≡ Refused r → (x : Outcome) → (x .answer ≡ NotNumbered r) × (x .count ≡ 0) × (length (x .records) ≡ 1024)
+      → Computed S cells o room old old x
+  unfolding componentsAnswer
+  refused-computed r e x (a, c, l) =
+      record {
+        answer = rw e a;
+        table = rw e;
+        count = rw e c;
+        records = rw (e, c);
+        in-row = omega arith;
+        long = l;
+        few = omega arith;
+      }
+
+  module _ (done : marksAnswer S cells o 4096 ≡ Done) (g h : List ℕ) (n : ℕ) (row : List Component) (is : (j : ℕ) → getD g j 0 ≡ gridAt S marks j)
+      (L : Labelled g gridSize n h row) (long : length row ≡ 1024) (few : n ≤ 1024) where
+    found : (n ≡ howMany S marks) × (numbers S (sized done) marks g (marks-length (mapOf S cells) o) is n (omega arith) h row L ≡ tableOf S marks) × (take n row ≡ recordsOf S marks)
+    found = as-defined S (sized done) marks g (marks-length (mapOf S cells) o) is n (omega arith) h row L (omega arith)
+
+    pub count-is : n ≡ howMany S marks
+    count-is = found .0
+
+    pub granted-computed : nodes S ≤ length old → n ≤ room → (new : List ℕ) → Copied S h old (nodes S) new
+        → Computed S cells o room old new (record { answer = Number n; count = n; records = row })
+    unfolding componentsAnswer tableWritten
+    granted-computed fits rows new C =
+        let e : check ≡ Done = all-granted done fits (omega (arith, found .0)) in
+        record {
+          answer = rw e (ap Number (found .0));
+          table = rw e (front (tableOf S marks) old new (nodes S) (ap length (sym (found .1)) ∙ length-table at-spot (nodes S)) fits (C .long) low (C .rest));
+          count = rw e (found .0);
+          records = rw e (found .2);
+          in-row = rows;
+          long = long;
+          few = few;
+        }
+      where
+        at-spot : ℕ → ℕ
+        at-spot k = getD h (spot (placeOf S k)) 0
+
+        low : (k : ℕ) → k < nodes S → getD new k 0 ≡ getD (tableOf S marks) k 0
+        low k l = C .done k l ∙ sym (ap (λ (t : List ℕ). getD t k 0) (sym (found .1)) ∙ getD-table at-spot (nodes S) k 0 l)

@@ -1,0 +1,98 @@
+-- `flood::spread` meets its contract. The loop's invariant: the first `o` places around are looked at. Assumes nothing.
+use mathlib.Core.Path.{_≡_, refl, sym, ap, _∙_, subst}
+use Prim.Native.Nat.{ℕ, _-_, _+_, _≤_, _<_}
+use native.Mathlib.Omega.{arith}
+use lib.ListN.{length, getD}
+use Rattle.components.specs.Grid.{gridSize, unseen, Spot, around}
+use Rattle.components.specs.Flood.{Sized, Spread}
+use Rattle.components.proofs.Around.{spot-le, around-le}
+use Rattle.components.proofs.Parts.{spread-none, spread-more, room}
+use Rattle.components.proofs.flood.spread.Statement.{statement}
+use Rattle.components.proofs.flood.spread.Tie as tie
+
+abbrev Inv-loop : tie.InvT-loop
+Inv-loop grid₀ queue₀ tail from number base end₀ o₀ grid queue end o =
+    (o ≤ 18) × Sized grid queue × Spread grid₀ queue₀ tail from number o grid queue end
+
+abbrev μ-loop : tie.MeasureT-loop
+μ-loop grid₀ queue₀ tail from number base end₀ o₀ grid queue end o = 18 - o
+
+sub-base : tie.Need-sub-base Inv-loop μ-loop
+sub-base c = c .before .before .pre .1 .inner
+
+loop-holds : tie.Need-loop-holds Inv-loop μ-loop
+loop-holds c =
+    let p = c .before .before .pre in
+    let a = c .before .before .args in
+    (omega arith, p .0, spread-none (a .grid .now) (a .queue .now) (a .tail) (a .from) (a .number) (p .3))
+
+step-around-requires : tie.Need-step-around-requires Inv-loop μ-loop
+step-around-requires c κs = omega arith
+
+-- where a step leads
+to : (from r o : ℕ) → Spot from → o < 18 → r ≡ getD around o 0 → (from - 307 + r < gridSize) × (from - 307 + r + 307 ≡ from + getD around o 0)
+to from r o s h e = omega (arith, spot-le from s, s .inner, around-le o h)
+
+led : (c : tie.After-step-around Inv-loop μ-loop)
+    → (c .before .before .before .before .before .before .before .args .from - 307 + c .step-around .result < gridSize)
+    × (c .before .before .before .before .before .before .before .args .from - 307 + c .step-around .result + 307
+    ≡ c .before .before .before .before .before .before .before .args .from + getD around (c .before .before .before .before .loop .o) 0)
+led c =
+    to (c .before .before .before .before .before .before .before .args .from) (c .step-around .result) (c .before .before .before .before .loop .o)
+    (c .before .before .before .before .before .before .before .pre .1) (c .before .before .before .loop-test .taken) (c .step-around .ensures)
+
+add-visit : tie.Need-add-visit Inv-loop μ-loop
+add-visit c = omega (arith, led c)
+
+visit-requires : tie.Need-visit-requires Inv-loop μ-loop
+visit-requires c κs =
+    let i = c .before .before .before .before .loop .inv in
+    let p = c .before .before .before .before .before .before .before .pre in
+    (i .1, led c .0, room (i .1) (p .2) (led c .0) (c .before .before .before .loop-test .taken) (led c .1) (i .2))
+
+add-o : tie.Need-add-o Inv-loop μ-loop
+add-o c = omega arith
+
+loop-less : tie.Need-loop-less Inv-loop μ-loop
+loop-less c = omega arith
+
+loop-again : tie.Need-loop-again Inv-loop μ-loop
+loop-again c =
+    let v = c .before .before .before .before .visit in
+    let d = c .before .before .before .before .before in
+    let i = d .before .before .before .before .loop .inv in
+    let p = d .before .before .before .before .before .before .before .pre in (
+      omega arith,
+      record { grid = v .kept .0 ∙ i .1 .grid; queue = v .kept .1 .0 ∙ i .1 .queue },
+      spread-more (i .1) (p .2) (led d .0) (d .before .before .before .loop-test .taken) (led d .1) (i .2) (v .ensures),
+    )
+
+same-length : tie.Need-same-length Inv-loop μ-loop
+same-length c = omega (arith, c .before .before .before .before .pre .0 .grid, c .before .loop .inv .1 .grid)
+
+same-length-2 : tie.Need-same-length-2 Inv-loop μ-loop
+same-length-2 c = omega (arith, c .before .before .before .before .pre .0 .queue, c .before .loop .inv .1 .queue)
+
+returns : tie.Need-returns Inv-loop μ-loop
+returns c =
+    let a = c .before .before .before .before .args in
+    let l = c .before .loop in
+    subst (λ (o : ℕ). Spread (a .grid .now) (a .queue .now) (a .tail) (a .from) (a .number) o (l .grid) (l .queue) (l .end)) (omega arith) (l .inv .2)
+
+pub spread-spec : {M : Type 1} → statement M
+spread-spec =
+    tie.close
+    (tie.spec
+    Inv-loop
+    μ-loop
+    sub-base
+    loop-holds
+    step-around-requires
+    add-visit
+    visit-requires
+    add-o
+    loop-less
+    loop-again
+    same-length
+    same-length-2
+    returns)

@@ -1,0 +1,81 @@
+-- `grid::copy_row` meets its contract. The loop's invariant: the first `x` numbers are copied. Assumes nothing.
+use mathlib.Core.Path.{_≡_, refl, sym, ap, _∙_, subst}
+use Prim.Native.Nat.{ℕ, _+_, _-_, _≤_, _<_}
+use native.Mathlib.Omega.{arith}
+use lib.ListN.{length, getD}
+use Rattle.mesh.specs.Fill.{Filled}
+use Rattle.mesh.proofs.Fill.{fill-none, fill-more}
+use Rattle.components.proofs.grid.copy_row.Statement.{statement}
+use Rattle.components.proofs.grid.copy_row.Tie as tie
+
+abbrev Inv-loop : tie.InvT-loop
+Inv-loop grid table₀ w k at x₀ table x = (x ≤ w) × Filled (λ i. k + i) (λ i. getD grid (at + i) 0) table₀ table x
+
+abbrev μ-loop : tie.MeasureT-loop
+μ-loop grid table₀ w k at x₀ table x = w - x
+
+loop-holds : tie.Need-loop-holds Inv-loop μ-loop
+loop-holds c =
+    let a = c .args in
+    (omega arith, fill-none (λ i. a .k + i) (λ i. getD (a .grid .now) (a .at + i) 0) (a .table .now))
+
+add-table : tie.Need-add-table Inv-loop μ-loop
+add-table c = omega arith
+
+mul-table : tie.Need-mul-table Inv-loop μ-loop
+mul-table c = omega arith
+
+shared-slice-read-table : tie.Need-shared-slice-read-table Inv-loop μ-loop
+shared-slice-read-table c = omega arith
+
+add-table-2 : tie.Need-add-table-2 Inv-loop μ-loop
+add-table-2 c = omega arith
+
+mul-table-2 : tie.Need-mul-table-2 Inv-loop μ-loop
+mul-table-2 c = omega arith
+
+slice-write-table : tie.Need-slice-write-table Inv-loop μ-loop
+slice-write-table c = omega (arith, c .before .before .loop .inv .1 .size)
+
+add-x : tie.Need-add-x Inv-loop μ-loop
+add-x c = omega arith
+
+loop-less : tie.Need-loop-less Inv-loop μ-loop
+loop-less c = omega arith
+
+loop-again : tie.Need-loop-again Inv-loop μ-loop
+loop-again c =
+    let l = c .before .before .loop in
+    let a = c .before .before .before .args in (
+      omega arith,
+      fill-more (λ i. a .k + i) (λ i. getD (a .grid .now) (a .at + i) 0) (a .table .now) (l .table) (l .x) (a .k + l .x) (getD (a .grid .now) (a .at + l .x) 0) (l .inv .1)
+          (omega (arith, l .inv .1 .size)) (λ i h e. omega arith) refl refl,
+    )
+
+same-length : tie.Need-same-length Inv-loop μ-loop
+same-length c = c .before .loop .inv .1 .size
+
+returns : tie.Need-returns Inv-loop μ-loop
+returns c =
+    let l = c .before .loop in
+    let a = c .before .before .args in
+    subst (Filled (λ i. a .k + i) (λ i. getD (a .grid .now) (a .at + i) 0) (a .table .now) (l .table)) (omega arith) (l .inv .1)
+
+pub copy-row-spec : {M : Type 1} → statement M
+copy-row-spec =
+    tie.close
+    (tie.spec
+    Inv-loop
+    μ-loop
+    loop-holds
+    add-table
+    mul-table
+    shared-slice-read-table
+    add-table-2
+    mul-table-2
+    slice-write-table
+    add-x
+    loop-less
+    loop-again
+    same-length
+    returns)

@@ -1,0 +1,58 @@
+-- `grid::lay` meets its contract. The loop's invariant: the layers below `z` are laid. Assumes nothing.
+use mathlib.Core.Path.{_≡_, refl, sym, ap, _∙_, subst}
+use Prim.Native.Nat.{ℕ, _+_, _-_, _*_, _≤_, _<_}
+use native.Mathlib.Omega.{arith}
+use lib.ListN.{length, getD}
+use Rattle.components.specs.Layout.{Laid}
+use Rattle.components.proofs.Layouts.{laid-none, all-laid}
+use Rattle.components.proofs.grid.lay.Statement.{statement}
+use Rattle.components.proofs.grid.lay.Tie as tie
+
+abbrev Inv-loop : tie.InvT-loop
+Inv-loop s marks grid₀ d z₀ grid z = (z ≤ s .d) × Laid s marks (307 + 289 * z) grid
+
+abbrev μ-loop : tie.MeasureT-loop
+μ-loop s marks grid₀ d z₀ grid z = s .d - z
+
+loop-holds : tie.Need-loop-holds Inv-loop μ-loop
+loop-holds c =
+    let s = c .before .before in
+    (omega arith, laid-none (s .args .s) (s .args .marks .now) (s .args .grid .now) (s .pre .2) (s .pre .3))
+
+lay-layer-requires : tie.Need-lay-layer-requires Inv-loop μ-loop
+lay-layer-requires c κs =
+    let p = c .before .before .before .before .before .pre in
+    (p .0, c .before .loop-test .taken, p .1, c .before .before .loop .inv .1)
+
+add-z : tie.Need-add-z Inv-loop μ-loop
+add-z c = omega arith
+
+loop-less : tie.Need-loop-less Inv-loop μ-loop
+loop-less c = omega arith
+
+loop-again : tie.Need-loop-again Inv-loop μ-loop
+loop-again c = (omega arith, c .before .before .lay-layer .ensures)
+
+same-length : tie.Need-same-length Inv-loop μ-loop
+same-length c = omega (arith, c .before .loop .inv .1 .long, c .before .before .before .before .pre .2)
+
+returns : tie.Need-returns Inv-loop μ-loop
+returns c =
+    let l = c .before .loop in
+    let s = c .before .before .before .before in
+    all-laid (s .args .s) (s .args .marks .now) (s .pre .0) (l .grid)
+    (subst (λ (n : ℕ). Laid (s .args .s) (s .args .marks .now) (307 + 289 * n) (l .grid)) (omega arith) (l .inv .1))
+
+pub lay-spec : {M : Type 1} → statement M
+lay-spec =
+    tie.close
+    (tie.spec
+    Inv-loop
+    μ-loop
+    loop-holds
+    lay-layer-requires
+    add-z
+    loop-less
+    loop-again
+    same-length
+    returns)

@@ -1,0 +1,82 @@
+-- `grid::lay_row` meets its contract. The loop's invariant: the first `x` marks are laid. Assumes nothing.
+use mathlib.Core.Path.{_≡_, refl, sym, ap, _∙_, subst}
+use Prim.Native.Nat.{ℕ, _+_, _-_, _≤_, _<_}
+use native.Mathlib.Omega.{arith}
+use lib.ListN.{length, getD}
+use Rattle.mesh.specs.Fill.{Filled}
+use Rattle.mesh.proofs.Fill.{fill-none, fill-more}
+use Rattle.components.specs.Grid.{shade}
+use Rattle.components.proofs.grid.lay_row.Statement.{statement}
+use Rattle.components.proofs.grid.lay_row.Tie as tie
+
+abbrev Inv-loop : tie.InvT-loop
+Inv-loop marks grid₀ w k at x₀ grid x = (x ≤ w) × Filled (λ i. at + i) (λ i. shade (getD marks (k + i) 0)) grid₀ grid x
+
+abbrev μ-loop : tie.MeasureT-loop
+μ-loop marks grid₀ w k at x₀ grid x = w - x
+
+loop-holds : tie.Need-loop-holds Inv-loop μ-loop
+loop-holds c =
+    let a = c .before .before .args in
+    (omega arith, fill-none (λ i. a .at + i) (λ i. shade (getD (a .marks .now) (a .k + i) 0)) (a .grid .now))
+
+add-shade : tie.Need-add-shade Inv-loop μ-loop
+add-shade c = omega arith
+
+shared-slice-read-shade : tie.Need-shared-slice-read-shade Inv-loop μ-loop
+shared-slice-read-shade c = omega arith
+
+shade-requires : tie.Need-shade-requires Inv-loop μ-loop
+shade-requires c κs = tt
+
+add-grid : tie.Need-add-grid Inv-loop μ-loop
+add-grid c = omega arith
+
+mul-grid : tie.Need-mul-grid Inv-loop μ-loop
+mul-grid c = omega arith
+
+slice-write-grid : tie.Need-slice-write-grid Inv-loop μ-loop
+slice-write-grid c = omega (arith, c .before .before .before .loop .inv .1 .size)
+
+add-x : tie.Need-add-x Inv-loop μ-loop
+add-x c = omega arith
+
+loop-less : tie.Need-loop-less Inv-loop μ-loop
+loop-less c = omega arith
+
+loop-again : tie.Need-loop-again Inv-loop μ-loop
+loop-again c =
+    let l = c .before .before .before .loop in
+    let a = c .before .before .before .before .before .before .args in (
+      omega arith,
+      fill-more (λ i. a .at + i) (λ i. shade (getD (a .marks .now) (a .k + i) 0)) (a .grid .now) (l .grid) (l .x) (a .at + l .x) (c .shade .result) (l .inv .1)
+          (omega (arith, l .inv .1 .size)) (λ i h e. omega arith) refl (c .shade .ensures),
+    )
+
+same-length : tie.Need-same-length Inv-loop μ-loop
+same-length c = c .before .loop .inv .1 .size
+
+returns : tie.Need-returns Inv-loop μ-loop
+returns c =
+    let l = c .before .loop in
+    let a = c .before .before .before .before .args in
+    subst (Filled (λ i. a .at + i) (λ i. shade (getD (a .marks .now) (a .k + i) 0)) (a .grid .now) (l .grid)) (omega arith) (l .inv .1)
+
+pub lay-row-spec : {M : Type 1} → statement M
+lay-row-spec =
+    tie.close
+    (tie.spec
+    Inv-loop
+    μ-loop
+    loop-holds
+    add-shade
+    shared-slice-read-shade
+    shade-requires
+    add-grid
+    mul-grid
+    slice-write-grid
+    add-x
+    loop-less
+    loop-again
+    same-length
+    returns)

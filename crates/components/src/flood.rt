@@ -1,0 +1,83 @@
+// One component at a time gets its number, by a queue of the places that have it.
+ghost use mathlib.Core.Path.{_≡_};
+ghost use Prim.Native.Nat.{ℕ, _+_, _<_, _≤_};
+ghost use lib.ListN.{length, getD};
+ghost use Rattle.components.specs.Grid.{gridSize, unseen, Spot, around, howOften};
+ghost use Rattle.components.specs.Flood.{Sized, Visited, Spread, Flooded};
+
+// What the grid holds at an unsafe node that has no number yet.
+pub const UNSEEN: u16 = 65535;
+
+// The steps to the eighteen touching places, each with 307 added.
+const AROUND: [usize; 18] = [
+    1,
+    17,
+    18,
+    19,
+    35,
+    289,
+    290,
+    291,
+    306,
+    308,
+    323,
+    324,
+    325,
+    579,
+    595,
+    596,
+    597,
+    613,
+];
+
+// Looks at one place.
+fn visit(grid: &mut [u16], queue: &mut [u16], tail: usize, at: usize, number: u16) -> usize
+    requires { ⌜ Sized (now grid) (now queue) × (at < gridSize) × (getD (now grid) at 0 ≡ unseen → tail < gridSize) ⌝ }
+    ensures { λ r. ⌜ Visited (now (grid .entry)) (now (queue .entry)) tail at number (now (grid .exit)) (now (queue .exit)) r ⌝ }
+{
+    if grid[at] != UNSEEN {
+        return tail;
+    }
+    grid[at] = number;
+    queue[tail] = at as u16;
+    tail + 1
+}
+
+// The distance of a step around a place.
+fn step_around(o: usize) -> usize
+    requires { ⌜ o < 18 ⌝ }
+    ensures { λ r. ⌜ r ≡ getD around o 0 ⌝ }
+{
+    AROUND[o]
+}
+
+// Looks at all places around one.
+fn spread(grid: &mut [u16], queue: &mut [u16], tail: usize, from: usize, number: u16) -> usize
+    requires { ⌜ Sized (now grid) (now queue) × Spot from × (number < unseen) × (howOften (now grid) number ≡ tail) ⌝ }
+    ensures { λ r. ⌜ Spread (now (grid .entry)) (now (queue .entry)) tail from number 18 (now (grid .exit)) (now (queue .exit)) r ⌝ }
+{
+    let base = from - 307;
+    let mut end = tail;
+    for o in 0..18 {
+        end = visit(grid, queue, end, base + step_around(o), number);
+    }
+    end
+}
+
+// Gives the number to the component of a place; how many nodes it has.
+pub fn flood(grid: &mut [u16], queue: &mut [u16], start: usize, number: u16) -> usize
+    requires { ⌜ Sized (now grid) (now queue) × (number < unseen)
+        × (getD (now grid) start 0 ≡ unseen)
+        × ((j : ℕ) → getD (now grid) j 0 ≡ unseen → Spot j)
+        × ((j : ℕ) → getD (now grid) j 0 ≡ number → ⊥) ⌝ }
+    ensures { λ r. ⌜ Flooded (now (grid .entry)) start number (now (grid .exit)) (now (queue .exit)) r ⌝ }
+{
+    let mut tail = visit(grid, queue, 0, start, number);
+    let mut head = 0;
+    while head < tail {
+        let from = queue[head] as usize;
+        tail = spread(grid, queue, tail, from, number);
+        head += 1;
+    }
+    tail
+}
