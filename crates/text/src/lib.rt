@@ -27,7 +27,8 @@ pub fn say_number(n: usize, out: &mut [u8], at: usize) -> usize
 // Stores a word and a number.
 pub fn say_both(word: &[u8], n: usize, out: &mut [u8], at: usize) -> usize
     requires { ⌜ at + (length (now word) + 20) ≤ length (now out) ⌝ }
-    ensures { λ r. ⌜ Said (now (out .entry)) at (now (word .entry) ++ decimal n) (now (out .exit)) r ⌝ }
+    ensures { λ r. ⌜ Said (now (out .entry)) at (now (word .entry) ++ decimal n) (now (out .exit)) r
+        × (r ≤ at + (length (now (word .entry)) + 20)) ⌝ }
 {
     let next = say(word, out, at);
     say_number(n, out, next)
