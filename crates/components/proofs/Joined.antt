@@ -2,35 +2,23 @@
 -- nodes to add than rounds. Assumes nothing.
 use mathlib.Core.Path.{_≡_, refl, sym, ap, _∙_, subst}
 use mathlib.Core.Logic.{_↔_, _⊎_, inl, inr}
-use mathlib.Core.Bool.{Bool, not, _||_}
-use mathlib.Core.List.{List}
-use Prim.Native.Nat.{ℕ, zero, suc, _+_, _≤_, _<_}
+use mathlib.Core.Bool.{Bool, true, false, not, _&&_, _||_}
+use mathlib.Core.List.{List, [], _∷_}
+use Prim.Native.Nat.{ℕ, zero, suc, _+_, _-_, _≤_, _<_}
 use native.Mathlib.Omega.{arith}
-use lib.Dec.{T, eqb, leb, nleb→lt, leb→le, eqb-refl}
-use lib.ListN.{length, List·getD-eq-default}
-use Rattle.mesh.specs.Tools.{table}
-use Rattle.mesh.specs.Mesh.{Axis, X, Y, Z, nodes, placeOf}
-use Rattle.mesh.specs.Cells.{Map}
-use Rattle.mesh.specs.Marks.{markAt, unsafeAt, marksOf}
-use Rattle.mesh.proofs.Tables.{getD-table}
-use Rattle.mesh.proofs.Tests.{T-every, T-and, T-or, T-eq, T-le, tried}
+use native.Mathlib.Nat.{add-comm}
+use lib.Dec.{T, T-not, eqb, leb, nleb→lt, leb→le, eqb-refl}
+use lib.ListN.{length, getD, List·getD-eq-default}
+use Rattle.mesh.specs.Tools.{between, table}
+use Rattle.mesh.specs.Mesh.{Axis, X, Y, Z, every, placeOf}
+use Rattle.mesh.proofs.Tests.{T-or, T-eq, T-no, T-lt, tried}
 use Rattle.mesh.specs.declared.Sizes.{Sizes}
 use Rattle.mesh.specs.declared.Place.{Place}
-use Rattle.components.specs.Lists.{isIn, keep}
+use Rattle.components.specs.Lists.{anyOf, isIn, keep}
 use Rattle.components.specs.Touch.{unsafe, unsafeNodes, apart, touch, touching, Joined, itself, further, near, grown, component, joined}
-use Rattle.components.proofs.Lists.{T-any-of, T-keep, keep-few, keep-tight, keep-ext, T-table, Ascending, keep-ascends, table-ascends}
+use Rattle.components.proofs.Lists.{T-any-of, T-keep, keep-few, keep-le, keep-tight, keep-ext, T-table, Ascending, keep-ascends, table-ascends}
 
--- ---- touching: as a statement, and that it goes both ways
-
-abbrev pub differences : Place → Place → ℕ
-differences p q = apart p q X + apart p q Y + apart p q Z
-
-pub T-touch : (p q : Place) → T (touch p q) ↔ (((a : Axis) → apart p q a ≤ 1) × ((1 ≤ differences p q) × (differences p q ≤ 2)))
-unfolding touch
-T-touch p q = (
-  λ t. simp (T-every, T-and, T-le) at t,
-  λ h. simp (T-every, T-and, T-le) h,
-)
+-- ---- touching goes both ways
 
 apart-sym : (p q : Place) (a : Axis) → apart p q a ≡ apart q p a
 apart-sym p q X = omega arith
@@ -56,9 +44,7 @@ module _ (S : Sizes) (marks : List ℕ) where
 
   pub joined-sym : {a b : ℕ} → Joined S marks a b → Joined S marks b a
   joined-sym (itself u) = itself u
-  joined-sym {a} (further {b} {c} j t u) =
-      let back : T (touching S c b) = rw (touch-sym (placeOf S c) (placeOf S b)) t in
-      joined-trans (further (itself u) back (end-unsafe j)) (joined-sym j)
+  joined-sym {a} (further {b} {c} j t u) = joined-trans (further (itself u) (rw (touch-sym (placeOf S c) (placeOf S b)) t) (end-unsafe j)) (joined-sym j)
 
 -- ---- the list of unsafe nodes
 
@@ -74,11 +60,6 @@ T-unsafe marks k = (
   λ i. T-keep (unsafe marks) (table (λ j. j) (length marks)) k .0 i .1,
   λ u. T-keep (unsafe marks) (table (λ j. j) (length marks)) k .1 (T-table (λ j. j) (length marks) k .1 (k, unsafe-lt marks k u, refl), u),
 )
-
--- by the mark bytes of a map the unsafe nodes are those of the mark rules
-pub unsafe-of : (m : Map) (o k : ℕ) → k < nodes (m .sizes) → unsafe (marksOf m o) k ≡ unsafeAt m o (placeOf (m .sizes) k)
-unfolding marksOf unsafeAt
-unsafe-of m o k h = ap (λ (b : ℕ). not (eqb b 0)) (getD-table (λ i. markAt m o (placeOf (m .sizes) i)) (nodes (m .sizes)) k 0 h)
 
 pub unsafe-ascends : (marks : List ℕ) → Ascending (unsafeNodes marks)
 unfolding unsafeNodes
@@ -142,9 +123,7 @@ module _ (S : Sizes) (among : List ℕ) (a : ℕ) where
   component-ascends h = rw last (keep-ascends (asks (length among)) among h)
 
   pub component-kept : component S among a ≡ keep (λ k. isIn k (component S among a)) among
-  component-kept =
-      last
-      ∙ keep-ext (asks (length among)) (λ k. isIn k (component S among a)) among λ k i. (λ t. T-last k .1 (i, t), λ h. T-last k .0 h .1)
+  component-kept = last ∙ keep-ext (asks (length among)) (λ k. isIn k (component S among a)) among λ k i. (λ t. T-last k .1 (i, t), λ h. T-last k .0 h .1)
 
   -- the component has its own node, if that is one of the nodes, and is closed under touching
   own : T (isIn a among) → (n : ℕ) → T (asks n a)
@@ -155,8 +134,7 @@ module _ (S : Sizes) (among : List ℕ) (a : ℕ) where
   unfolding component
   closed j k i t m =
       let n = length among in
-      let meets : T (eqb j k || touching S j k) = T-or (eqb j k) (touching S j k) .1 (inr t) in
-      let hit : T (asks (suc n) k) = T-any-of (grown S among a n) (λ j. eqb j k || touching S j k) .1 (j, i, meets) in
+      let hit : T (asks (suc n) k) = T-any-of (grown S among a n) (λ j. eqb j k || touching S j k) .1 (j, i, T-or (eqb j k) (touching S j k) .1 (inr t)) in
       let e : keep (asks (suc n)) among ≡ component S among a = sym (kept (suc n)) ∙ settled in
       rw e at (T-keep (asks (suc n)) among k .1 (m, hit))
 

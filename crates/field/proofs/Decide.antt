@@ -1,28 +1,26 @@
 -- The test of soundness decides it. Assumes nothing.
-use mathlib.Core.Path.{_≡_, refl, sym, ap, _∙_}
-use mathlib.Core.Logic.{_↔_, _⊎_, inl, inr}
-use mathlib.Core.Bool.{Bool, not, cond, _&&_}
+use mathlib.Core.Path.{_≡_, refl}
+use mathlib.Core.Logic.{_↔_}
+use mathlib.Core.Bool.{not}
 use mathlib.Core.List.{List}
 use Prim.Native.Nat.{ℕ, _<_}
-use native.Mathlib.Omega.{arith}
-use lib.Dec.{T, eqb}
+use lib.Dec.{T}
 use lib.ListN.{length}
-use Rattle.mesh.specs.Tools.{implies, all}
 use Rattle.mesh.specs.Mesh.{nodes, number, placeOf}
 use Rattle.mesh.specs.Steps.{next}
 use Rattle.mesh.specs.Cells.{Map, wall, stateLength}
-use Rattle.mesh.specs.Marks.{Kind, useless, cantReach, has, ruleByte, isWord}
+use Rattle.mesh.specs.Marks.{useless, cantReach, has, ruleByte, isWord}
 use Rattle.mesh.specs.declared.Sizes.{Sizes}
 use Rattle.mesh.specs.declared.Place.{Place}
 use Rattle.mesh.specs.declared.Next.{Next}
 use Rattle.mesh.specs.declared.Next.the-variants.{At, Edge}
 use Rattle.mesh.proofs.Steps.{dir-led}
-use Rattle.mesh.proofs.Tests.{T-and, T-implies, T-cond, T-all, T-eq, T-lt, tried}
-use Rattle.field.specs.State.{own, heard, mapIn, faultyNode, worksNode, pair, says}
-use Rattle.field.specs.Sound.{within, _⊆_, faultyHears, heardRight, workingRight, faultyRight, nodeRight, soundOn, sound, SoundOn, Sound}
-use Rattle.field.proofs.State.{Talks, pair-talks, talks-pair, dir-lt-six, speaker-is}
+use Rattle.mesh.proofs.Tests.{T-and, T-implies, T-cond, T-all, T-eq}
+use Rattle.field.specs.State.{own, heard, mapIn, faultyNode, worksNode}
+use Rattle.field.specs.Sound.{within, _noMoreThan_, faultyHears, heardRight, workingRight, faultyRight, nodeRight, soundOn, sound, SoundOn, Sound}
+use Rattle.field.proofs.State.{Talks, pair-talks, talks-pair, speaker-is}
 
-pub within-iff : (v w : ℕ) → T (within v w) ↔ (v ⊆ w)
+pub within-iff : (v w : ℕ) → T (within v w) ↔ (v noMoreThan w)
 unfolding within
 within-iff v w = (
   λ t.
@@ -38,7 +36,7 @@ module _ (m : Map) (o : ℕ) (s : List ℕ) where
   -- one byte heard
   at-iff : (k j : ℕ) (q : Place) → T (heardRight m s k j (At q))
       ↔ ((T (wall m (placeOf (m .sizes) k) j q) → heard s k j ≡ 1)
-      × (T (not (wall m (placeOf (m .sizes) k) j q)) → T (isWord (heard s k j)) × (heard s k j ⊆ own s (number (m .sizes) q))))
+      × (T (not (wall m (placeOf (m .sizes) k) j q)) → T (isWord (heard s k j)) × (heard s k j noMoreThan own s (number (m .sizes) q))))
   at-iff k j q = simp (T-cond, T-and, T-eq, within-iff) (λ x. x, λ x. x)
 
   working-iff : (k : ℕ) → T (workingRight m o s k)
@@ -65,7 +63,9 @@ module _ (m : Map) (o : ℕ) (s : List ℕ) where
       go Edge e = T-eq (heard s k j) 8 .1 (z .edge k j l w h e)
       go (At q) e = at-iff k j q .1 (
         z .walled k j q l w e,
-        λ f. let t : Talks m k j = record { lt = l; works-k = w; speaker = q; there = e; free = f } in rw (speaker-is m k j t) at (z .words k j (talks-pair m k j t)),
+        λ f.
+            let t : Talks m k j = record { lt = l; works-k = w; speaker = q; there = e; free = f } in
+            rw (speaker-is m k j t) at (z .words k j (talks-pair m k j t)),
       )
 
   module _ (long : length s ≡ stateLength (m .sizes)) (right : (k : ℕ) → k < nodes (m .sizes) → T (nodeRight m o s k)) where

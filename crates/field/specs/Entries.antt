@@ -1,5 +1,4 @@
 -- The calls on a state: what each answers, and what its state then holds, for every input. Assumes nothing.
-use mathlib.Core.Bool.{Bool}
 use mathlib.Core.List.{List}
 use Prim.Native.Nat.{ℕ}
 use lib.Dec.{eqb}
@@ -15,20 +14,21 @@ use Rattle.field.specs.State.{mapIn, pair, says}
 use Rattle.field.specs.Sound.{within, sound, fresh}
 use Rattle.field.specs.Hear.{changed, outstanding}
 
--- "a state, the room for a fresh one included, not exactly 7 × N": 1, 2
-unfoldable pub checkState : Sizes → List ℕ → Answer
-checkState S s = checkSizes S andThen unless (eqb (length s) (stateLength S)) BadLength
+-- "a state, the room for a fresh one included, not exactly 7 × N": 1, 2, for a state of so many bytes
+unfoldable pub checkState : Sizes → ℕ → Answer
+checkState S long = checkSizes S andThen unless (eqb long (stateLength S)) BadLength
 
--- making a fresh state: 1, 2, 4, 5
-unfoldable pub freshAnswer : Sizes → ℕ → List ℕ → List ℕ → Answer
-freshAnswer S o cells s = checkState S s andThen checkMap S cells andThen checkOrientation o
+-- making a fresh state in a room of so many bytes: 1, 2, 4, 5
+unfoldable pub freshAnswer : Sizes → List ℕ → ℕ → ℕ → Answer
+freshAnswer S cells o room = checkState S room andThen checkMap S cells andThen checkOrientation o
 
-unfoldable pub freshWritten : Sizes → ℕ → List ℕ → List ℕ → List ℕ
-freshWritten S o cells s = granted (freshAnswer S o cells s) (fresh (mapOf S cells) o) s
+-- the lent bytes as the call returns
+abbrev pub freshOut : Sizes → List ℕ → ℕ → List ℕ → List ℕ
+freshOut S cells o old = granted (freshAnswer S cells o (length old)) (fresh (mapOf S cells) o) old
 
 -- "the state is not sound for this orientation": 1, 2, 5, 6
 unfoldable pub soundAnswer : Sizes → ℕ → List ℕ → Answer
-soundAnswer S o s = checkState S s andThen checkOrientation o andThen unless (sound S o s) Unsound
+soundAnswer S o s = checkState S (length s) andThen checkOrientation o andThen unless (sound S o s) Unsound
 
 -- the number of words outstanding: 1, 2, 5, 6
 unfoldable pub outstandingAnswer : Sizes → ℕ → List ℕ → Numbered
@@ -40,7 +40,7 @@ checkWord w = unless (isWord w) BadNumber
 
 unfoldable pub hearAnswer : Sizes → ℕ → ℕ → ℕ → ℕ → List ℕ → Answer
 hearAnswer S o k j w s =
-    checkState S s
+    checkState S (length s)
     andThen checkOrientation o
     andThen checkNode S k
     andThen checkDirection j
@@ -49,5 +49,6 @@ hearAnswer S o k j w s =
     andThen unless (pair (mapIn S s) k j) NoPair
     andThen unless (within w (says S s k j)) NotHeld
 
-unfoldable pub hearWritten : Sizes → ℕ → ℕ → ℕ → ℕ → List ℕ → List ℕ
-hearWritten S o k j w s = granted (hearAnswer S o k j w s) (changed S o s k j w) s
+-- the lent bytes as the call returns
+abbrev pub hearOut : Sizes → ℕ → ℕ → ℕ → ℕ → List ℕ → List ℕ
+hearOut S o k j w s = granted (hearAnswer S o k j w s) (changed S o k j w s) s

@@ -1,6 +1,8 @@
 pub mod State
 pub mod Sound
 pub mod Hear
+pub mod Scan
 pub mod Entries
 pub mod Rounds
 pub mod Promise
+pub mod Computed

@@ -1,5 +1,5 @@
--- Demand 3: what the talking nodes promise, whatever calls come. Assumes nothing.
-use mathlib.Core.Bool.{Bool}
+-- Demand 3: what the talking nodes promise, whatever calls come. `promise` and `fresh-promise` of proofs/ show that they keep it;
+-- what is still owed is code that does what Entries.antt says. Assumes nothing.
 use mathlib.Core.List.{List}
 use mathlib.Core.Logic.{_≢_}
 use mathlib.Core.Path.{_≡_}
@@ -11,16 +11,21 @@ use Rattle.mesh.specs.Mesh.{nodes, placeOf}
 use Rattle.mesh.specs.Cells.{Map}
 use Rattle.mesh.specs.Marks.{Kind, has, heading, holds, byteOf, stuckWithin, markAt}
 use Rattle.mesh.specs.declared.Sizes.{Sizes}
+use Rattle.mesh.specs.declared.Answer.the-variants.{Done}
 use Rattle.mesh.specs.declared.Numbered.the-variants.{Number}
-use Rattle.field.specs.State.{own, heard, StateOf, worksNode, pair}
-use Rattle.field.specs.Sound.{_⊆_, Sound, fresh}
+use Rattle.field.specs.State.{own, heard, SameAt, StateOf, worksNode, pair}
+use Rattle.field.specs.Sound.{_noMoreThan_, Sound, fresh}
 use Rattle.field.specs.Hear.{outstandingOn}
-use Rattle.field.specs.Entries.{outstandingAnswer, hearWritten}
+use Rattle.field.specs.Entries.{outstandingAnswer, hearAnswer, hearOut}
 use Rattle.field.specs.Rounds.{Later, FullRounds}
 
 -- W: the number of working nodes
 abbrev pub workers : Map → ℕ
 workers m = count (nodes (m .sizes)) (worksNode m)
+
+-- the full rounds that settle: 2 × W + 1
+abbrev pub enoughRounds : Map → ℕ
+enoughRounds m = 2 * workers m + 1
 
 module _ (m : Map) (o : ℕ) where
   abbrev S : Sizes
@@ -32,11 +37,13 @@ module _ (m : Map) (o : ℕ) where
 
   -- The promise of a map m, an orientation o, and a sound state s of that map.
   pub record Promise (s : List ℕ) : Type 0 where
-    -- a word heard changes two bytes of its listener alone;
-    pub alone : (k j w i : ℕ) → i ≢ 7 * k → i ≢ 7 * k + 1 + j → getD (hearWritten S o k j w s) i 0 ≡ getD s i 0
+    -- a word heard changes two bytes of its listener alone, and what the listener then holds follows from the word and its own seven bytes;
+    pub alone : (k j w i : ℕ) → i ≢ 7 * k → i ≢ 7 * k + 1 + j → getD (hearOut S o k j w s) i 0 ≡ getD s i 0
+    pub itself : (k j w : ℕ) (t : List ℕ) → hearAnswer S o k j w s ≡ Done → hearAnswer S o k j w t ≡ Done
+        → SameAt k s t → SameAt k (hearOut S o k j w s) (hearOut S o k j w t)
     -- whatever calls come, the state stays sound, and a state of the map, and no mark is taken away;
     pub sound : (t : List ℕ) → Later S o s t → Sound S o t × StateOf m t
-    pub kept : (t : List ℕ) → Later S o s t → (k : ℕ) → k < nodes S → own s k ⊆ own t k
+    pub kept : (t : List ℕ) → Later S o s t → (k : ℕ) → k < nodes S → own s k noMoreThan own t k
     -- no node holds a mark that the rules do not give it;
     pub no-more : (t : List ℕ) → Later S o s t → (k : ℕ) → k < nodes S → (a : Kind) → T (has (own t k) a) → T (holds m o (placeOf S k) a)
     -- the number outstanding is exact;
@@ -44,7 +51,7 @@ module _ (m : Map) (o : ℕ) where
     -- settled, each node's own byte is the mark byte of the rules;
     pub settled : (t : List ℕ) → Later S o s t → Settled t → (k : ℕ) → k < nodes S → own t k ≡ markAt m o (placeOf S k)
     -- 2 × W + 1 full rounds settle it, or more; and there are full rounds, as many as one likes.
-    pub settles : (t : List ℕ) (n : ℕ) → 2 * workers m + 1 ≤ n → FullRounds m o t n s → Settled t
+    pub settles : (t : List ℕ) (n : ℕ) → enoughRounds m ≤ n → FullRounds m o t n s → Settled t
     pub rounds : (n : ℕ) → (t : List ℕ) × FullRounds m o t n s
 
   -- The fresh state of a map is a sound state of it, in which nodes know only failed neighbours: every word heard is 0, and a working node

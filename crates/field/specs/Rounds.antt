@@ -7,7 +7,7 @@ use lib.Dec.{T}
 use Rattle.mesh.specs.Cells.{Map}
 use Rattle.mesh.specs.declared.Sizes.{Sizes}
 use Rattle.field.specs.State.{pair, says}
-use Rattle.field.specs.Entries.{freshWritten, hearWritten}
+use Rattle.field.specs.Entries.{freshOut, hearOut}
 
 -- A call on a state: listener, direction and word; a question, which changes nothing; or a fresh state made of these cells.
 pub data Call : Type 0 where
@@ -17,9 +17,9 @@ pub data Call : Type 0 where
 
 -- the state after a call, granted or refused
 abbrev pub after : Sizes → ℕ → List ℕ → Call → List ℕ
-after S o s (hearing k j w) = hearWritten S o k j w s
+after S o s (hearing k j w) = hearOut S o k j w s
 after S o s asking = s
-after S o s (making cells) = freshWritten S o cells s
+after S o s (making cells) = freshOut S cells o s
 
 -- and after several, one after another
 abbrev pub run : Sizes → ℕ → List ℕ → List Call → List ℕ
@@ -42,12 +42,16 @@ pub record Later (S : Sizes) (o : ℕ) (s t : List ℕ) : Type 0 where
   pub kept : T (stretch calls)
   pub ends : t ≡ run S o s calls
 
+-- the word that k's neighbour in direction j held after the calls of the round so far
+abbrev pub held : Sizes → ℕ → List ℕ → List Call → ℕ → ℕ → ℕ
+held S o s sofar k j = says S (run S o s sofar) k j
+
 -- In the calls cs from s on, k hears from direction j "a word .. that the speaker held at some moment since the round began".
 pub record Told (S : Sizes) (o : ℕ) (s : List ℕ) (cs : List Call) (k j : ℕ) : Type 0 where
   pub before : List Call
   pub between : List Call
   pub since : List Call
-  pub parts : cs ≡ before ++ between ++ hearing k j (says S (run S o s before) k j) ∷ since
+  pub parts : cs ≡ before ++ between ++ hearing k j (held S o s before k j) ∷ since
 
 -- "A full round is a stretch of calls .. in which, for each such pair, a word is heard": cs, from the state s on
 pub record FullRound (m : Map) (o : ℕ) (s : List ℕ) (cs : List Call) : Type 0 where

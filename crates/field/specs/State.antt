@@ -1,5 +1,5 @@
 -- 01, "The talking nodes": the bytes of a state, the map that it tells, and who talks to whom. Assumes nothing.
-use mathlib.Core.Bool.{Bool, true, false, not, _&&_}
+use mathlib.Core.Bool.{Bool, _&&_}
 use mathlib.Core.List.{List}
 use mathlib.Core.Logic.{_↔_}
 use mathlib.Core.Path.{_≡_}
@@ -18,6 +18,10 @@ own s k = getD s (7 * k) 0
 
 abbrev pub heard : List ℕ → ℕ → ℕ → ℕ
 heard s k j = getD s (7 * k + 1 + j) 0
+
+-- node k holds the same seven bytes in s and in t
+abbrev pub SameAt : ℕ → List ℕ → List ℕ → Type 0
+SameAt k s t = (own s k ≡ own t k) × ((j : ℕ) → j < 6 → heard s k j ≡ heard t k j)
 
 -- the map that a state tells: "every other call on a state reads from it which nodes are faulty (own byte 1)"
 unfoldable pub cellsIn : Sizes → List ℕ → List ℕ

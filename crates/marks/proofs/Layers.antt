@@ -15,8 +15,8 @@ use Rattle.mesh.specs.Mesh.{InRange, Inside}
 use Rattle.mesh.specs.Cells.{Map}
 use Rattle.mesh.specs.Fill.{Filled}
 use Rattle.mesh.specs.declared.Place.{Place}
-use Rattle.marks.specs.Sweep.{Layer, Swept, Stretch}
-use Rattle.marks.proofs.Lines.{next-row, lay-room}
+use Rattle.marks.specs.Sweep.{Layer, Swept, Stretch, inRow, inRows, inLayers}
+use Rattle.marks.proofs.Rows.{next-row, rows-room}
 
 last-or : (i n : ℕ) → i < n + 1 → (i ≡ n) ⊎ (i < n)
 last-or i n l = eq-or-lt-of-le (le-of-suc-le-suc (rw add-one at l))
@@ -45,44 +45,47 @@ module _ (m : Map) (o : ℕ) where
 
   -- ---- rows
 
-  pub rows-none : (c : ℕ) (lay out : List ℕ) → Layer m o c 0 lay → Stretch m o c 0 (λ s. (s .y < 0) × (s .z ≡ c)) lay out out
-  rows-none c lay out L = record { rows = L; bytes = swept-none _ out (λ s p. absurd (omega arith)) }
+  pub rows-none : (c : ℕ) (rows out : List ℕ) → Layer m o c 0 rows → Stretch m o c 0 (inRows 0 c) rows out out
+  rows-none c rows out L = record { layer = L; bytes = swept-none _ out (λ s p. absurd (omega arith)) }
 
-  pub rows-more : (c b : ℕ) (lay lay′ old mid new : List ℕ) → Stretch m o c b (λ s. (s .y < b) × (s .z ≡ c)) lay old mid
-      → Stretch m o c (b + 1) (λ s. (s .y ≡ b) × (s .z ≡ c)) lay′ mid new → Stretch m o c (b + 1) (λ s. (s .y < b + 1) × (s .z ≡ c)) lay′ old new
-  rows-more c b lay lay′ old mid new A B = record {
-    rows = B .rows;
+  pub rows-more : (c b : ℕ) (rows rows′ old mid new : List ℕ) → Stretch m o c b (inRows b c) rows old mid
+      → Stretch m o c (b + 1) (inRow b c) rows′ mid new → Stretch m o c (b + 1) (inRows (b + 1) c) rows′ old new
+  rows-more c b rows rows′ old mid new A B = record {
+    layer = B .layer;
     bytes = swept-more _ _ _ old mid new (λ s i p. elim (last-or (s .y) b (p .0)) [ inl e ↦ inl (e, p .1) | inr l ↦ inr (l, p .1) ]) (A .bytes) (B .bytes);
   }
 
   -- ---- layers
 
-  pub layers-none : (out : List ℕ) → Swept m o (λ s. s .z < 0) out out
+  pub layers-none : (out : List ℕ) → Swept m o (inLayers 0) out out
   layers-none out = swept-none _ out (λ s p. absurd (omega arith))
 
-  pub layers-more : (c : ℕ) (lay old mid new : List ℕ) → Swept m o (λ s. s .z < c) old mid
-      → Stretch m o c (m .sizes .h) (λ s. (s .y < m .sizes .h) × (s .z ≡ c)) lay mid new → Swept m o (λ s. s .z < c + 1) old new
-  layers-more c lay old mid new A B = swept-more _ _ _ old mid new
+  pub layers-more : (c : ℕ) (rows old mid new : List ℕ) → Swept m o (inLayers c) old mid
+      → Stretch m o c (m .sizes .h) (inRows (m .sizes .h) c) rows mid new → Swept m o (inLayers (c + 1)) old new
+  layers-more c rows old mid new A B = swept-more _ _ _ old mid new
       (λ s i p. elim (last-or (s .z) c p) [ inl e ↦ inl (i .y-in, e) | inr l ↦ inr l ])
       A
       (B .bytes)
 
   -- ahead of the first layer
-  pub layer-first : (before lay : List ℕ) (v : ℕ) → InRange (m .sizes) → (length before ≡ 272) × ((i : ℕ) → i < 272 → getD before i 0 ≡ v)
-      → v ≡ bit (ltb (m .sizes .d) 2) → Filled (λ i. i) (λ i. 0) before lay (m .sizes .w) → Layer m o 0 0 lay
-  layer-first before lay v r known e F = record {
+  pub layer-first : (before rows : List ℕ) (v : ℕ) → InRange (m .sizes) → (length before ≡ 272) × ((i : ℕ) → i < 272 → getD before i 0 ≡ v)
+      → v ≡ bit (ltb (m .sizes .d) 2) → Filled (λ i. i) (λ i. 0) before rows (m .sizes .w) → Layer m o 0 0 rows
+  layer-first before rows v r known e F = record {
     long = F .size ∙ known .0;
     edge = λ a l. let q : a + m .sizes .w * 0 ≡ a = omega arith in rw q (F .at a l);
     done = λ a b h k. absurd (omega arith);
     ahead = λ a b l h k.
-        let fits = lay-room (m .sizes) r b k in
+        let fits = rows-room (m .sizes) r b k in
         let row = next-row (m .sizes .w) b a in
-        F .kept (a + m .sizes .w * suc b) (λ i n q. omega arith) ∙ known .1 (a + m .sizes .w * suc b) (omega arith) ∙ e ∙ ap bit (uncounted (m .sizes .d));
+        F .kept (a + m .sizes .w * suc b) (λ i n q. omega arith)
+        ∙ known .1 (a + m .sizes .w * suc b) (omega arith)
+        ∙ e
+        ∙ ap bit (uncounted (m .sizes .d));
   }
 
   -- a layer that is done lies ahead on Z of the next one
-  pub layer-next : (c : ℕ) (lay : List ℕ) → c + 1 < m .sizes .d → Layer m o c (m .sizes .h) lay → Layer m o (c + 1) 0 lay
-  layer-next c lay l L = record {
+  pub layer-next : (c : ℕ) (rows : List ℕ) → c + 1 < m .sizes .d → Layer m o c (m .sizes .h) rows → Layer m o (c + 1) 0 rows
+  layer-next c rows l L = record {
     long = L .long;
     edge = L .edge;
     done = λ a b h k. absurd (omega arith);

@@ -1,5 +1,5 @@
+pub mod Turns
 pub mod Rows
-pub mod Lines
 pub mod Layers
 pub mod Answer
 pub mod Written

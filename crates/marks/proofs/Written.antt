@@ -13,7 +13,6 @@ use Rattle.mesh.specs.Mesh.{nodes, number, placeOf, Inside}
 use Rattle.mesh.specs.Steps.{reversed}
 use Rattle.mesh.specs.Cells.{Map, mapOf, faulty, faultyCell}
 use Rattle.mesh.specs.Marks.{toGo, shut, stuck, byteOf, markAt, marksOf}
-use Rattle.mesh.specs.Fill.{Filled}
 use Rattle.mesh.proofs.Bits.{bit-le}
 use Rattle.mesh.proofs.Numbers.{number-of, number-lt, place-in}
 use Rattle.mesh.proofs.Left.{to-go-in, to-go-back}
@@ -21,8 +20,8 @@ use Rattle.mesh.proofs.Marks.{marks-length, marks-at}
 use Rattle.mesh.specs.declared.Sizes.{Sizes}
 use Rattle.mesh.specs.declared.Place.{Place}
 use Rattle.marks.specs.Entry.{marksWritten}
-use Rattle.marks.specs.Sweep.{Right, Swept, Room}
-use Rattle.marks.specs.Join.{markOf, markFrom, Bytes}
+use Rattle.marks.specs.Sweep.{Right, inLayers, Swept, Room}
+use Rattle.marks.specs.Join.{markOf, markFrom, Bytes, Joined}
 
 -- ---- what is to be written
 
@@ -45,18 +44,21 @@ module _ (S : Sizes) (cells : List ℕ) (o : ℕ) (old : List ℕ) where
 
   pub written-size : nodes S ≤ length old → length (marksWritten S cells o old) ≡ length old
   unfolding marksWritten
-  written-size l = omega (arith, length-append (marksOf (mapOf S cells) o) (drop (nodes S) old), length-drop (nodes S) old, marks-length (mapOf S cells) o)
+  written-size l =
+      let e = length-append (marksOf (mapOf S cells) o) (drop (nodes S) old) in
+      omega (arith, length-drop (nodes S) old, marks-length (mapOf S cells) o)
 
 -- ---- what is written
 
 -- a whole sweep has each node's byte at its number
-module _ (m : Map) (o : ℕ) (old new : List ℕ) (W : Swept m o (λ s. s .z < m .sizes .d) old new) where
+module _ (m : Map) (o : ℕ) (old new : List ℕ) (W : Swept m o (inLayers (m .sizes .d)) old new) where
   swept-at : (k : ℕ) → k < nodes (m .sizes) → getD new k 0 ≡ bit (shut m o (placeOf (m .sizes) k))
   swept-at k l =
-      let i : Inside (m .sizes) (placeOf (m .sizes) k) = place-in (m .sizes) k l in
-      let s : Inside (m .sizes) (toGo (m .sizes) o (placeOf (m .sizes) k)) = to-go-in (m .sizes) o (placeOf (m .sizes) k) i in
-      let r : Right m o new (toGo (m .sizes) o (placeOf (m .sizes) k)) = W .right (toGo (m .sizes) o (placeOf (m .sizes) k)) s (s .z-in) in
-      let e : toGo (m .sizes) o (toGo (m .sizes) o (placeOf (m .sizes) k)) ≡ placeOf (m .sizes) k = to-go-back (m .sizes) o (placeOf (m .sizes) k) i in
+      let p : Place = placeOf (m .sizes) k in
+      let i : Inside (m .sizes) p = place-in (m .sizes) k l in
+      let s : Inside (m .sizes) (toGo (m .sizes) o p) = to-go-in (m .sizes) o p i in
+      let r : Right m o new (toGo (m .sizes) o p) = W .right (toGo (m .sizes) o p) s (s .z-in) in
+      let e : toGo (m .sizes) o (toGo (m .sizes) o p) ≡ p = to-go-back (m .sizes) o p i in
       ap (λ (j : ℕ). getD new j 0) (sym (number-of (m .sizes) k))
       ∙ subst (λ (p : Place). getD new (number (m .sizes) p) 0 ≡ bit (shut m o p)) e r
 
@@ -72,7 +74,7 @@ module _ (S : Sizes) (o : ℕ) (cells old mid none behind new : List ℕ) where
   abbrev m : Map
   m = mapOf S cells
 
-  joined-at : Swept m o (λ s. s .z < S .d) old mid → Swept m (reversed o) (λ s. s .z < S .d) none behind
+  joined-at : Swept m o (inLayers (S .d)) old mid → Swept m (reversed o) (inLayers (S .d)) none behind
       → (k : ℕ) → k < nodes S → markFrom cells mid behind k ≡ markAt m o (placeOf S k)
   unfolding markAt byteOf
   joined-at A B k l =
@@ -80,16 +82,19 @@ module _ (S : Sizes) (o : ℕ) (cells old mid none behind new : List ℕ) where
       let e : faultyCell (getD cells k 0) ≡ faulty m p = ap (λ (j : ℕ). faultyCell (getD cells j 0)) (sym (number-of S k)) in
       rw (e, swept-at m o old mid A k l, swept-at m (reversed o) none behind B k l) (mark-shut (faulty m p) (stuck m o p) (stuck m (reversed o) p))
 
-  pub written : Room S cells old → length new ≡ length old → Swept m o (λ s. s .z < S .d) old mid
-      → Swept m (reversed o) (λ s. s .z < S .d) none behind → Filled (λ i. i) (markFrom cells mid behind) mid new (nodes S)
+  pub written : Room S cells old → length new ≡ length old → Swept m o (inLayers (S .d)) old mid
+      → Swept m (reversed o) (inLayers (S .d)) none behind → Joined cells behind mid new (nodes S)
       → new ≡ marksWritten S cells o old
-  written R long A B F = ext-getD 0 new (marksWritten S cells o old) (long ∙ sym (written-size S cells o old (R .out-long))) λ k h. go k (ltb k (nodes S)) refl
+  written R long A B F = ext-getD 0 new (marksWritten S cells o old)
+      (long ∙ sym (written-size S cells o old (R .out-long)))
+      (λ k h. go k (ltb k (nodes S)) refl)
     where
       low : (k : ℕ) → k < nodes S → getD new k 0 ≡ getD (marksWritten S cells o old) k 0
       low k l =
           F .at k l
           ∙ joined-at A B k l
-          ∙ sym (ap (λ (j : ℕ). getD (marksWritten S cells o old) j 0) (sym (number-of S k)) ∙ written-at S cells o old (placeOf S k) (place-in S k l))
+          ∙ sym (written-at S cells o old (placeOf S k) (place-in S k l))
+          ∙ ap (λ (j : ℕ). getD (marksWritten S cells o old) j 0) (number-of S k)
 
       go : (k : ℕ) (t : Bool) → ltb k (nodes S) ≡ t → getD new k 0 ≡ getD (marksWritten S cells o old) k 0
       go k true e = low k (ltb-true k (nodes S) e)

@@ -4,6 +4,7 @@ use mathlib.Core.List.{List}
 use Prim.Native.Nat.{ℕ, _+_, _*_, _<_, _≤_}
 use lib.ListN.{length, getD}
 use Rattle.mesh.specs.Cells.{faultyCell}
+use Rattle.mesh.specs.Fill.{Filled}
 
 -- "1 faulty, 2 useless, 4 can't-reach, 6 both", from bytes that are 0 or 1
 abbrev pub markOf : Bool → ℕ → ℕ → ℕ
@@ -11,6 +12,10 @@ markOf faulty ahead behind = cond faulty 1 (2 * ahead + 4 * behind)
 
 abbrev pub markFrom : List ℕ → List ℕ → List ℕ → ℕ → ℕ
 markFrom cells ahead behind i = markOf (faultyCell (getD cells i 0)) (getD ahead i 0) (getD behind i 0)
+
+-- the first n bytes of old, which say what is shut ahead, have become marks
+abbrev pub Joined : List ℕ → List ℕ → List ℕ → List ℕ → ℕ → Type 0
+Joined cells behind old new n = Filled (λ i. i) (markFrom cells old behind) old new n
 
 -- l begins with n bytes that are 0 or 1
 pub record Bytes (n : ℕ) (l : List ℕ) : Type 0 where

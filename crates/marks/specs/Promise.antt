@@ -33,7 +33,8 @@ pub record Marked (S : Sizes) (cells : List ℕ) (o : ℕ) (old new : List ℕ) 
   -- no other marks satisfy them
   pub only : (marks : Kind → Place → Bool) → Rules (mapOf S cells) o marks → (k : Kind) (p : Place) → Inside S p → marks k p ≡ marksIn S new k p
   -- marks that leave out no node which a rule marks have all that are written
-  pub least : (marks : Kind → Place → Bool) → Closed (mapOf S cells) o marks → (k : Kind) (p : Place) → Inside S p → T (marksIn S new k p) → T (marks k p)
+  pub least : (marks : Kind → Place → Bool) → Closed (mapOf S cells) o marks
+      → (k : Kind) (p : Place) → Inside S p → T (marksIn S new k p) → T (marks k p)
   -- "longer outputs keep their remaining places"
   pub kept : (k : ℕ) → nodes S ≤ k → getD new k 0 ≡ getD old k 0
   pub size : length new ≡ length old

@@ -24,15 +24,15 @@ unfoldable pub rowOf : (ℕ → Bool) → (ℕ → Bool) → (ℕ → Bool) → 
 rowOf f y z zero = f zero
 rowOf f y z (suc a) = f (suc a) || (rowOf f y z a && y (suc a) && z (suc a))
 
--- the row of w whose cells begin at k: in `lay` the row ahead on Y begins at j, and the one ahead on Z after it
+-- the row of w whose cells begin at k: in `rows` the row ahead on Y begins at j, and the one ahead on Z after it
 abbrev pub rowAt : List ℕ → List ℕ → ℕ → ℕ → ℕ → Bool → ℕ → Bool
-rowAt cells lay w k j down =
-    rowOf (λ i. faultyCell (getD cells (flip down w i + k) 0)) (λ i. one (getD lay (i + j) 0)) (λ i. one (getD lay (i + j + w) 0))
+rowAt cells rows w k j down =
+    rowOf (λ i. faultyCell (getD cells (flip down w i + k) 0)) (λ i. one (getD rows (i + j) 0)) (λ i. one (getD rows (i + j + w) 0))
 
 -- n bytes of such a row stand in the place of the row ahead on Z, and in `out` at their nodes
-pub record Row (cells lay lay′ out out′ : List ℕ) (w k j : ℕ) (down : Bool) (n : ℕ) : Type 0 where
-  pub in-lay : Filled (λ a. a + j + w) (λ a. bit (rowAt cells lay w k j down a)) lay lay′ n
-  pub in-out : Filled (λ a. flip down w a + k) (λ a. bit (rowAt cells lay w k j down a)) out out′ n
+pub record Row (cells rows rows′ out out′ : List ℕ) (w k j : ℕ) (down : Bool) (n : ℕ) : Type 0 where
+  pub in-rows : Filled (λ a. a + j + w) (λ a. bit (rowAt cells rows w k j down a)) rows rows′ n
+  pub in-out : Filled (λ a. flip down w a + k) (λ a. bit (rowAt cells rows w k j down a)) out out′ n
 
 -- ---- a layer
 
@@ -44,18 +44,29 @@ withLeft m o a b c = toGo (m .sizes) o (place a b c)
 abbrev pub aheadZ : Map → ℕ → ℕ → ℕ → ℕ → Bool
 aheadZ m o a b c = implies (counted (m .sizes) Z) (ltb 0 c && shut m o (withLeft m o a b (c - 1)))
 
--- `lay` while the layer with c steps left is swept and n of its rows are done: the edge on Y, those rows, and what lies ahead on Z of the others
-pub record Layer (m : Map) (o c n : ℕ) (lay : List ℕ) : Type 0 where
-  pub long : length lay ≡ 272
-  pub edge : (a : ℕ) → a < m .sizes .w → getD lay (a + m .sizes .w * 0) 0 ≡ 0
-  pub done : (a b : ℕ) → a < m .sizes .w → b < n → getD lay (a + m .sizes .w * suc b) 0 ≡ bit (shut m o (withLeft m o a b c))
-  pub ahead : (a b : ℕ) → a < m .sizes .w → n ≤ b → b < m .sizes .h → getD lay (a + m .sizes .w * suc b) 0 ≡ bit (aheadZ m o a b c)
+-- `rows` has room for the edge on Y and a layer, 17 rows of 16. While the layer with c steps left is swept and n of its rows are done it holds
+-- the edge, those n, and of each other row what lies ahead of it on Z.
+pub record Layer (m : Map) (o c n : ℕ) (rows : List ℕ) : Type 0 where
+  pub long : length rows ≡ 272
+  pub edge : (a : ℕ) → a < m .sizes .w → getD rows (a + m .sizes .w * 0) 0 ≡ 0
+  pub done : (a b : ℕ) → a < m .sizes .w → b < n → getD rows (a + m .sizes .w * suc b) 0 ≡ bit (shut m o (withLeft m o a b c))
+  pub ahead : (a b : ℕ) → a < m .sizes .w → n ≤ b → b < m .sizes .h → getD rows (a + m .sizes .w * suc b) 0 ≡ bit (aheadZ m o a b c)
 
 -- ---- the bytes of all nodes
 
 -- l holds the byte of the node with s steps left
 abbrev pub Right : Map → ℕ → List ℕ → Place → Type 0
 Right m o l s = getD l (number (m .sizes) (toGo (m .sizes) o s)) 0 ≡ bit (shut m o (toGo (m .sizes) o s))
+
+-- the nodes of the row with b and c steps left, of n rows of the layer with c steps left, and of n layers
+abbrev pub inRow : ℕ → ℕ → Place → Type 0
+inRow b c s = (s .y ≡ b) × (s .z ≡ c)
+
+abbrev pub inRows : ℕ → ℕ → Place → Type 0
+inRows n c s = (s .y < n) × (s .z ≡ c)
+
+abbrev pub inLayers : ℕ → Place → Type 0
+inLayers n s = s .z < n
 
 -- a stretch of the sweep: its own nodes become right, no right one becomes wrong, and the bytes past the nodes are kept
 pub record Swept (m : Map) (o : ℕ) (own : Place → Type 0) (old new : List ℕ) : Type 0 where
@@ -64,8 +75,8 @@ pub record Swept (m : Map) (o : ℕ) (own : Place → Type 0) (old new : List �
   pub kept : (k : ℕ) → nodes (m .sizes) ≤ k → getD new k 0 ≡ getD old k 0
 
 -- a stretch of the layer with c steps left, after which n of its rows are done
-pub record Stretch (m : Map) (o c n : ℕ) (own : Place → Type 0) (lay out out′ : List ℕ) : Type 0 where
-  pub rows : Layer m o c n lay
+pub record Stretch (m : Map) (o c n : ℕ) (own : Place → Type 0) (rows out out′ : List ℕ) : Type 0 where
+  pub layer : Layer m o c n rows
   pub bytes : Swept m o own out out′
 
 -- the lists of a sweep are long enough

@@ -2,6 +2,7 @@ pub mod Tests
 pub mod Tables
 pub mod Numbers
 pub mod Steps
+pub mod Strides
 pub mod Rule
 pub mod Left
 pub mod Stuck
@@ -12,3 +13,4 @@ pub mod Whole
 pub mod Bits
 pub mod Fill
 pub mod Answers
+pub mod Granted

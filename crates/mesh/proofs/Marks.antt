@@ -72,7 +72,10 @@ rules-same m o A B e r = record {
   where
     ruled : (A B : Place → Bool) → ((q : Place) → Inside (m .sizes) q → A q ≡ B q) → (side : Axis → ℕ) (p : Place) → Inside (m .sizes) p
         → Ruled m side A p → Ruled m side B p
-    ruled A B e side p i x = (x .0, λ a c. blocks-grows m A B p (side a) (λ q f. subst (λ (t : Bool). T t) (e q (next-in (m .sizes) p q i (side a) f))) (x .1 a c))
+    ruled A B e side p i x = (
+      x .0,
+      λ a c. blocks-grows m A B p (side a) (λ q f. subst (λ (t : Bool). T t) (e q (next-in (m .sizes) p q i (side a) f))) (x .1 a c),
+    )
 
     moved : (k : Kind) (side : Axis → ℕ) (p : Place) → Inside (m .sizes) p → T (A k p) ↔ Ruled m side (A k) p → T (B k p) ↔ Ruled m side (B k) p
     moved k side p i h = (

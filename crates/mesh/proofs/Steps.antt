@@ -133,12 +133,12 @@ module _ (S : Sizes) (p : Place) (i : Inside S p) where
       split true h = (tt, (cc))
       split false h = let z : _≡_ {A = ℕ} 0 1 = cc in absurd (omega arith)
 
-  inside-on : (a : Axis) → on p a < span S a
+  pub inside-on : (a : Axis) → on p a < span S a
   inside-on X = i .x-in
   inside-on Y = i .y-in
   inside-on Z = i .z-in
 
-  put-in : (a : Axis) (c : ℕ) → c < span S a → Inside S (put a p c)
+  pub put-in : (a : Axis) (c : ℕ) → c < span S a → Inside S (put a p c)
   put-in X c h = record { x-in = h; y-in = i .y-in; z-in = i .z-in }
   put-in Y c h = record { x-in = i .x-in; y-in = h; z-in = i .z-in }
   put-in Z c h = record { x-in = i .x-in; y-in = i .y-in; z-in = h }

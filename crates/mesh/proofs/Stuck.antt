@@ -65,6 +65,15 @@ module _ (m : Map) (o : ℕ) where
       go zero p i l t = absurd (not-suc-le-zero l)
       go (suc n) p i l t = r p i (near-grows (stuck m o) A p i (λ q iq h. go n q iq (omega arith)) (rw (stuck-is p i) at t))
 
+  -- and the greatest that it allows: whatever marks only nodes that the rule marks
+  pub greatest : (A : Place → Bool) → ((q : Place) → Inside (m .sizes) q → T (A q) → T (marked m o A q))
+      → (p : Place) → Inside (m .sizes) p → T (A p) → T (stuck m o p)
+  greatest A r p i = go (suc (toEnd p)) p i (omega arith)
+    where
+      go : (n : ℕ) (p : Place) → Inside (m .sizes) p → toEnd p < n → T (A p) → T (stuck m o p)
+      go zero p i l t = absurd (not-suc-le-zero l)
+      go (suc n) p i l t = rw (stuck-is p i) (near-grows A (stuck m o) p i (λ q iq h. go n q iq (omega arith)) (r p i t))
+
   -- ---- as relations
 
   to-stuck : (n : ℕ) (p : Place) → Inside (m .sizes) p → toEnd p < n → T (stuck m o p) → Stuck m o p

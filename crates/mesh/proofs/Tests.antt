@@ -1,10 +1,11 @@
 -- Tests as statements: `simp tests at t` takes a test apart, `simp tests p` proves one. Assumes nothing.
-use mathlib.Core.Path.{_≡_, refl, sym, subst}
+use mathlib.Core.Path.{_≡_, refl, sym, ap₂, subst}
 use mathlib.Core.Logic.{_↔_, _⊎_, inl, inr}
 use mathlib.Core.Bool.{Bool, true, false, not, _&&_, _||_, cond}
-use Prim.Native.Nat.{ℕ, zero, suc, _≤_, _<_}
+use Prim.Native.Nat.{ℕ, zero, suc, _+_, _≤_, _<_}
 use lib.Dec.{T, eqb, eqb→eq, eqb-refl, leb, leb→le, le→leb, ltb, ltb→lt, lt→ltb}
 use native.Mathlib.Omega.{arith}
+use native.Mathlib.Numerals.{add-one}
 use native.Mathlib.Nat.{eq-or-lt-of-le, le-of-suc-le-suc}
 use Rattle.mesh.specs.Tools.{bit, implies, all, any}
 use Rattle.mesh.specs.Mesh.{Axis, X, Y, Z, every}
@@ -82,6 +83,19 @@ bool-ext true true f g = refl
 bool-ext true false f g = absurd (f tt)
 bool-ext false true f g = absurd (g tt)
 bool-ext false false f g = refl
+
+-- one more, as a loop counts; and one that fails
+pub all-more : (n : ℕ) (p : ℕ → Bool) → all (n + 1) p ≡ p n && all n p
+unfolding all
+all-more n p = rw add-one
+
+pub all-fails : (n : ℕ) (p : ℕ → Bool) (k : ℕ) → k < n → p k ≡ false → all n p ≡ false
+all-fails n p k l e = bool-ext (all n p) false (λ t. subst (λ (b : Bool). T b) e (T-all n p .0 t k l)) (λ t. absurd t)
+
+pub all-same : (n : ℕ) (p q : ℕ → Bool) → ((k : ℕ) → k < n → p k ≡ q k) → all n p ≡ all n q
+unfolding all
+all-same zero p q e = refl
+all-same (suc n) p q e = ap₂ _&&_ (e n (omega arith)) (all-same n p q λ k l. e k (omega arith))
 
 module _ {A : Type 0} where
   pub cond-true : (b : Bool) (x y : A) → T b → cond b x y ≡ x

@@ -142,7 +142,7 @@ pub hops-is : (p e : Place) → hops p e ≡ ((e .x - p .x) + (p .x - e .x)) + (
 unfolding hops
 hops-is p e = rw (size-is (p .x) (e .x), size-is (p .y) (e .y), size-is (p .z) (e .z))
 
-place-eq : (p q : Place) → p .x ≡ q .x → p .y ≡ q .y → p .z ≡ q .z → p ≡ q
+pub place-eq : (p q : Place) → p .x ≡ q .x → p .y ≡ q .y → p .z ≡ q .z → p ≡ q
 place-eq p q ex ey ez i = place (ex i) (ey i) (ez i)
 
 pub same-iff : (p q : Place) → T (same p q) ↔ (p ≡ q)

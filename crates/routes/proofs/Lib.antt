@@ -1,4 +1,12 @@
 pub mod Differences
+pub mod Box
+pub mod Runs
+pub mod Rows
+pub mod Entered
+pub mod Backward
+pub mod Forward
+pub mod Flags
+pub mod Ends
 pub mod Paths
 pub mod Walks
 pub mod Offered

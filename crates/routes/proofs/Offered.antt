@@ -1,20 +1,22 @@
 -- The offered set: bit j is set exactly if a path to the end begins in direction j. The route written: it is a path, of hops + 1 nodes, and
 -- takes the lowest-numbered offered direction at each node. Assumes nothing.
 use mathlib.Core.Path.{_≡_, refl, sym, ap, subst}
-use mathlib.Core.Logic.{_↔_}
-use mathlib.Core.Bool.{Bool, true, false}
+use mathlib.Core.Logic.{_↔_, inl, inr}
+use mathlib.Core.Bool.{Bool, true, false, not}
 use mathlib.Core.List.{List, _∷_}
 use Prim.Native.Nat.{ℕ, zero, suc, _+_, _*_, _/_, _%_, _^_, _<_, _≤_}
 use native.Mathlib.Omega.{arith}
 use lib.ListN.{length}
-use lib.Dec.{T, ltb}
+use lib.Pow.{pow-pos}
+use lib.Dec.{T, T-not, ltb}
 use borrow.Author.Tests.{ltb-true, ltb-false}
 use Rattle.mesh.specs.Tools.{bit, sum}
 use Rattle.mesh.specs.Mesh.{number, Inside}
 use Rattle.mesh.specs.Steps.{next}
 use Rattle.mesh.specs.Cells.{Map}
-use Rattle.mesh.proofs.Tests.{bool-ext}
-use Rattle.mesh.proofs.Tables.{sum-zero}
+use Rattle.mesh.proofs.Tests.{bool-ext, tried}
+use Rattle.mesh.proofs.Bits.{bit-le}
+use Rattle.mesh.proofs.Tables.{sum-zero, sum-part}
 use Rattle.mesh.proofs.Steps.{dir-led, next-in}
 use Rattle.mesh.specs.declared.Place.{Place}
 use Rattle.mesh.specs.declared.Next.the-variants.{At}
@@ -26,10 +28,6 @@ use Rattle.routes.proofs.Walks.{path-walk}
 use Rattle.routes.proofs.Paths.{mayHop-iff, begins-read, hop-lowers, leads-iff}
 
 -- ---- the offered set
-
-bit-le : (b : Bool) → bit b ≤ 1
-bit-le true = omega arith
-bit-le false = omega arith
 
 -- a number with bit j for the test j, of six
 six-lt : (t : ℕ → Bool) → sum 6 (λ j. bit (t j) * 2 ^ j) < 64
@@ -138,6 +136,29 @@ module _ (m : Map) (e : Place) where
       split : {l : List ℕ} → Leads m e p e l → (j : ℕ) × (j < 6) × T (offers m e p j)
       split (stay f) = absurd (ne f)
       split (hop {r = r} {l = l} j h y L) = (j, dir-led (m .sizes) p r j h, offers-iff m e p j i .1 (r, l, h, y, L))
+
+  -- a node that is not the end has a path exactly if its offered set is not 0
+  pub offered-none : (p : Place) → Inside (m .sizes) p → (p ≡ e → ⊥) → offered m e p ≡ 0 → T (leads m e p e) → ⊥
+  unfolding offered
+  offered-none p i ne z t =
+      let (j, h, y) = offers-some p i ne t in
+      let q : bit (offers m e p j) * 2 ^ j ≤ 0 = rw z at (sum-part 6 (λ j. bit (offers m e p j) * 2 ^ j) j h) in
+      let k : bit (offers m e p j) ≡ 1 = bit-one (offers m e p j) .1 y in
+      omega (arith, rw k at q, pow-pos j)
+
+  pub offered-leads : (p : Place) → Inside (m .sizes) p → 0 < offered m e p → T (leads m e p e)
+  unfolding offered
+  offered-leads p i h = elim (tried (leads m e p e)) [
+    | inl t ↦ t
+    | inr t ↦ absurd (omega (arith, sum-zero 6 (λ j. bit (offers m e p j) * 2 ^ j) λ j l. rw (none t j) (omega arith)))
+  ]
+    where
+      none : T (not (leads m e p e)) → (j : ℕ) → offers m e p j ≡ false
+      none t j = bool-ext (offers m e p j) false
+          (λ y.
+          let (r, l, g, z, L) = offers-iff m e p j i .0 y in
+          T-not (leads m e p e) t (leads-iff m e p e i .1 (_, hop {l = l} j g z L)))
+          (λ y. absurd y)
 
   routed : (n : ℕ) (p : Place) → Inside (m .sizes) p → hops p e ≡ n → T (leads m e p e) → Lowest m e p (routeWithin n m e p)
   unfolding routeWithin

@@ -13,7 +13,7 @@ use Rattle.components.specs.declared.Component.{Component}
 use Rattle.routes.specs.Entries.{verdictAnswer, verdictNo, verdictHops, verdictOffered, routeAnswer, routeOut}
 use Rattle.routes.specs.declared.Verdict.{Verdict}
 use Rattle.field.specs.State.{own}
-use Rattle.field.specs.Entries.{freshWritten, hearAnswer, hearWritten, outstandingAnswer}
+use Rattle.field.specs.Entries.{freshOut, hearAnswer, hearOut, outstandingAnswer}
 use Rattle.field.specs.Rounds.{Call, run}
 
 -- of a map: the marks or the components in an orientation; the verdict or the route from a node to a node; and, orientation 0, what a word
@@ -49,7 +49,7 @@ records (c ∷ cs) = c .count ∷ c .x0 ∷ c .y0 ∷ c .z0 ∷ c .x1 ∷ c .y1 
 
 -- the state after a fresh one and these calls
 abbrev pub state : Map → List Call → List ℕ
-state m calls = run (m .sizes) 0 (freshWritten (m .sizes) 0 (m .cells) (lent (stateLength (m .sizes)))) calls
+state m calls = run (m .sizes) 0 (freshOut (m .sizes) (m .cells) 0 (lent (stateLength (m .sizes)))) calls
 
 -- what the definitions of each call answer
 abbrev pub reply : Question → List ℕ
@@ -64,5 +64,5 @@ reply (route m s e) =
     numbers a ++ written a (routeOut (m .sizes) (m .cells) s e (lent 46))
 reply (word m calls k j w) =
     let s = state m calls in
-    answerNo (hearAnswer (m .sizes) 0 k j w s) ∷ own (hearWritten (m .sizes) 0 k j w s) k ∷ []
+    answerNo (hearAnswer (m .sizes) 0 k j w s) ∷ own (hearOut (m .sizes) 0 k j w s) k ∷ []
 reply (outstanding m calls) = numbers (outstandingAnswer (m .sizes) 0 (state m calls))

@@ -4,9 +4,8 @@ use Prim.Native.Nat.{ℕ}
 use native.Mathlib.Omega.{arith}
 use borrow.Author.Needs.{needs}
 use denote.Ref.{now}
-use Rattle.mesh.specs.Fill.{Filled}
 use Rattle.mesh.proofs.Numbers.{nodes-le}
-use Rattle.marks.specs.Join.{markFrom}
+use Rattle.marks.specs.Join.{Joined}
 use Rattle.marks.proofs.Written.{swept-bytes, written}
 use Rattle.marks.proofs.entry.mark_all.Statement.{statement}
 use Rattle.marks.proofs.entry.mark_all.Tie as tie
@@ -67,8 +66,8 @@ returns c =
     let a = s .args in
     written (a .s) (a .o) (now (a .cells)) (now (a .out)) (f .sweep .last .1 .1 .0) _ (g .sweep2 .last .1 .1 .0) (k .join .last .1 .1 .0)
     (s .pre .0) (k .join .kept .1 .1 .0 ∙ f .sweep .kept .1 .1 .0) (f .sweep .ensures) (g .sweep2 .ensures)
-    (subst (λ (j : ℕ). Filled (λ i. i) (markFrom (now (a .cells)) (f .sweep .last .1 .1 .0) (g .sweep2 .last .1 .1 .0)) (f .sweep .last .1 .1 .0) (k .join .last .1 .1 .0) j)
-    (n .nodes .ensures .0) (k .join .ensures))
+    (subst (λ (n : ℕ). Joined (now (a .cells)) (g .sweep2 .last .1 .1 .0) (f .sweep .last .1 .1 .0) (k .join .last .1 .1 .0) n) (n .nodes .ensures .0)
+    (k .join .ensures))
 
 pub mark-all-spec : {M : Type 1} → statement M
 mark-all-spec =

@@ -4,19 +4,19 @@ use Prim.Native.Nat.{ℕ, _-_, _≤_}
 use native.Mathlib.Omega.{arith}
 use denote.Ref.{now}
 use lib.ListN.{getD}
-use Rattle.mesh.specs.Fill.{Filled}
 use Rattle.mesh.proofs.Fill.{fill-none, fill-more}
-use Rattle.marks.specs.Join.{markFrom}
+use Rattle.marks.specs.Join.{Joined}
 use Rattle.marks.proofs.join.join.Statement.{statement}
 use Rattle.marks.proofs.join.join.Tie as tie
 
 abbrev Inv-loop : tie.InvT-loop
-Inv-loop cells behind out₀ n i₀ out i = (i ≤ n) × Filled (λ j. j) (markFrom cells out₀ behind) out₀ out i
+Inv-loop cells behind out₀ n i₀ out i = (i ≤ n) × Joined cells behind out₀ out i
 
 abbrev μ-loop : tie.MeasureT-loop
 μ-loop cells behind out₀ n i₀ out i = n - i
 
-unread : (at : tie.At-loop Inv-loop μ-loop) → getD (at .loop .out) (at .loop .i) 0 ≡ getD (now (at .before .before .before .before .args .out)) (at .loop .i) 0
+unread : (at : tie.At-loop Inv-loop μ-loop)
+    → getD (at .loop .out) (at .loop .i) 0 ≡ getD (now (at .before .before .before .before .args .out)) (at .loop .i) 0
 unread at = at .loop .inv .1 .kept (at .loop .i) (λ j h e. omega arith)
 
 loop-holds : tie.Need-loop-holds Inv-loop μ-loop
@@ -65,7 +65,7 @@ returns c =
     let at = c .before in
     let a = at .before .before .before .before .args in
     let e : at .loop .i ≡ a .n = omega arith in
-    subst (λ (n : ℕ). Filled (λ i. i) (markFrom (now (a .cells)) (now (a .out)) (now (a .behind))) (now (a .out)) (at .loop .out) n) e (at .loop .inv .1)
+    subst (λ (n : ℕ). Joined (now (a .cells)) (now (a .behind)) (now (a .out)) (at .loop .out) n) e (at .loop .inv .1)
 
 pub join-spec : {M : Type 1} → statement M
 join-spec =

@@ -11,10 +11,10 @@ use Rattle.marks.proofs.sweep.first_layer.Statement.{statement}
 use Rattle.marks.proofs.sweep.first_layer.Tie as tie
 
 abbrev Inv-loop : tie.InvT-loop
-Inv-loop lay₀ w a₀ lay a = (a ≤ w) × Filled (λ i. i) (λ i. 0) lay₀ lay a
+Inv-loop rows₀ w a₀ rows a = (a ≤ w) × Filled (λ i. i) (λ i. 0) rows₀ rows a
 
 abbrev μ-loop : tie.MeasureT-loop
-μ-loop lay₀ w a₀ lay a = w - a
+μ-loop rows₀ w a₀ rows a = w - a
 
 beyond-requires : tie.Need-beyond-requires Inv-loop μ-loop
 beyond-requires c κs = search needs
@@ -25,8 +25,8 @@ filled-requires c κs = search needs
 loop-holds : tie.Need-loop-holds Inv-loop μ-loop
 loop-holds c = (omega arith, fill-none _ _ _)
 
-array-write-lay : tie.Need-array-write-lay Inv-loop μ-loop
-array-write-lay c = omega (arith, c .before .before .before .before .pre)
+array-write-rows : tie.Need-array-write-rows Inv-loop μ-loop
+array-write-rows c = omega (arith, c .before .before .before .before .pre)
 
 add-a : tie.Need-add-a Inv-loop μ-loop
 add-a c = omega arith
@@ -39,15 +39,17 @@ loop-again c =
     let at = c .before in
     let F = at .loop .inv .1 in
     let known = at .before .filled .ensures .0 in
-    (omega arith, fill-more _ _ _ _ (at .loop .a) (at .loop .a) 0 F (omega (arith, F .size, at .before .before .before .pre)) (λ i h e. omega arith) refl refl)
+    let fits = at .before .before .before .pre in
+    (omega arith, fill-more _ _ _ _ (at .loop .a) (at .loop .a) 0 F (omega (arith, F .size)) (λ i h e. omega arith) refl refl)
 
 returns : tie.Need-returns Inv-loop μ-loop
 returns c cells o =
     let at = c .before in
     let s = at .before .before .before in
     let e : at .loop .a ≡ s .args .s .w = omega arith in
-    layer-first (mapOf (s .args .s) cells) o _ (at .loop .lay) (at .before .before .beyond .result) (s .pre) (at .before .filled .ensures) (at .before .before .beyond .ensures)
-    (subst (λ (n : ℕ). Filled (λ i. i) (λ i. 0) (at .before .filled .result) (at .loop .lay) n) e (at .loop .inv .1))
+    let v = at .before .before .beyond in
+    layer-first (mapOf (s .args .s) cells) o _ (at .loop .rows) (v .result) (s .pre) (at .before .filled .ensures) (v .ensures)
+    (subst (λ (n : ℕ). Filled (λ i. i) (λ i. 0) (at .before .filled .result) (at .loop .rows) n) e (at .loop .inv .1))
 
 pub first-layer-spec : {M : Type 1} → statement M
 first-layer-spec =
@@ -58,7 +60,7 @@ first-layer-spec =
     beyond-requires
     filled-requires
     loop-holds
-    array-write-lay
+    array-write-rows
     add-a
     loop-less
     loop-again

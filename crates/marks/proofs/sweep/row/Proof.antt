@@ -1,112 +1,74 @@
--- `marks::sweep::row` meets its contract: turn a writes the byte with a steps left, from three that no turn before it wrote. Assumes nothing.
-use mathlib.Core.Path.{_≡_, refl, sym, _∙_, ap, subst}
-use Prim.Native.Nat.{ℕ, _-_, _≤_}
+-- `marks::sweep::row` meets its contract: it asks for the row with b and c steps left, and `rows` has the rows ahead. Assumes nothing.
+use mathlib.Core.Path.{_≡_}
 use native.Mathlib.Omega.{arith}
+use borrow.Author.Needs.{needs}
 use denote.Ref.{now}
-use Rattle.mesh.specs.Tools.{bit}
-use Rattle.mesh.proofs.Fill.{fill-none}
-use Rattle.marks.specs.Sweep.{rowAt, Row}
-use Rattle.marks.proofs.Rows.{before, before-next, read-bits, row-turn, row-more}
+use Rattle.mesh.specs.Cells.{Map, mapOf}
+use Rattle.marks.proofs.Rows.{rows-room, first, first-room, rows-bits, row-done}
 use Rattle.marks.proofs.sweep.row.Statement.{statement}
 use Rattle.marks.proofs.sweep.row.Tie as tie
 
-abbrev Inv-loop : tie.InvT-loop
-Inv-loop cells lay₀ out₀ w k j down last₀ a₀ lay out last a =
-    (a ≤ w) × Row cells lay₀ lay out₀ out w k j down a × (last ≡ bit (before (rowAt cells lay₀ w k j down) a))
+abbrev M : tie.Start → Map
+M s = mapOf (s .args .s) (now (s .args .cells))
 
-abbrev μ-loop : tie.MeasureT-loop
-μ-loop cells lay₀ out₀ w k j down last₀ a₀ lay out last a = w - a
+-- the number that is handed on is that of the row's first node
+k-is : (c : tie.After-number) →
+    let s = c .before .before .before .before .before in
+    c .number .result ≡ first (M s) (s .args .o) (s .args .b) (s .args .c) (s .pre .0 .sized) (s .pre .1) (s .pre .2)
+k-is c =
+    let x = c .before .before .coordinate .ensures .0 in
+    let z = c .before .coordinate2 .ensures .0 in
+    rw (← x, ← z) (omega (arith, c .number .ensures .0))
 
-loop-holds : tie.Need-loop-holds Inv-loop μ-loop
-loop-holds c = (omega arith, record { in-lay = fill-none _ _ _; in-out = fill-none _ _ _ }, refl)
+coordinate-requires : tie.Need-coordinate-requires
+coordinate-requires c κs = search needs
 
-coord-requires : tie.Need-coord-requires Inv-loop μ-loop
-coord-requires c κs = omega arith
+coordinate-requires-2 : tie.Need-coordinate-requires-2
+coordinate-requires-2 c κs = search needs
 
-add-i : tie.Need-add-i Inv-loop μ-loop
-add-i c = omega arith
+number-requires : tie.Need-number-requires
+number-requires c κs = search needs
 
-add-own : tie.Need-add-own Inv-loop μ-loop
-add-own c = omega arith
+mul-row-at : tie.Need-mul-row-at
+mul-row-at c =
+    let s = c .before .before .before .before .before .before .before .before in
+    omega (arith, rows-room (s .args .s) (s .pre .0 .sized) (s .args .b) (s .pre .1))
 
-add-y : tie.Need-add-y Inv-loop μ-loop
-add-y c = omega arith
-
-shared-slice-read-met : tie.Need-shared-slice-read-met Inv-loop μ-loop
-shared-slice-read-met c = omega arith
-
-element-copy-out-met : tie.Need-element-copy-out-met Inv-loop μ-loop
-element-copy-out-met c = omega arith
-
-element-copy-out-met-2 : tie.Need-element-copy-out-met-2 Inv-loop μ-loop
-element-copy-out-met-2 c = omega arith
-
-met-requires : tie.Need-met-requires Inv-loop μ-loop
-met-requires c κs =
-    let at = c .before .before .before .before .before in
-    let s = at .before .before .before in
+row-at-requires : tie.Need-row-at-requires
+row-at-requires c κs =
+    let n = c .before .before .before in
+    let s = n .before .before .before .before .before in
     let a = s .args in
-    let bits = read-bits (now (a .cells)) (now (a .lay)) (at .loop .lay) (a .w) (a .k) (a .j) (a .down) (at .loop .a) (at .loop .last)
-    (at .loop .inv .1 .in-lay) (omega arith) (s .pre .4) (at .loop .inv .2) in
-    search bits
-
-element-write-lay : tie.Need-element-write-lay Inv-loop μ-loop
-element-write-lay c = omega arith
-
-slice-write-out : tie.Need-slice-write-out Inv-loop μ-loop
-slice-write-out c = omega arith
-
-add-a : tie.Need-add-a Inv-loop μ-loop
-add-a c = omega arith
-
-loop-less : tie.Need-loop-less Inv-loop μ-loop
-loop-less c = omega arith
-
-loop-again : tie.Need-loop-again Inv-loop μ-loop
-loop-again c =
-    let at = c .before .before .before .before .before .before in
-    let s = at .before .before .before in
-    let a = s .args in
-    let x = c .before .before .before .before .coord in
-    let l = c .before .before .before .before .before .loop-test .taken in
-    let R = at .loop .inv .1 in
-    let e = row-turn (now (a .cells)) (now (a .lay)) (at .loop .lay) (a .w) (a .k) (a .j) (a .down) (at .loop .a) (at .loop .last) (x .result)
-    (c .met .result) (R .in-lay) l (at .loop .inv .2) (x .ensures .0) (c .met .ensures) in (
-      omega arith,
-      row-more (now (a .cells)) (now (a .lay)) (at .loop .lay) (a .w) (a .k) (a .j) (a .down) (now (a .out)) (at .loop .out) (at .loop .a) (x .result)
-          (c .met .result) R l (x .ensures .1) (omega (arith, s .pre)) (omega (arith, s .pre)) (x .ensures .0) e,
-      e ∙ ap bit (sym (before-next (rowAt (now (a .cells)) (now (a .lay)) (a .w) (a .k) (a .j) (a .down)) (at .loop .a))),
+    let r = s .pre .0 in
+    let fits = first-room (M s) (a .o) (a .b) (a .c) (r .sized) (s .pre .1) (s .pre .2) in
+    let k = k-is n in (
+      omega (arith, r .cells-long),
+      omega (arith, r .out-long),
+      s .pre .3 .long,
+      rows-room (a .s) (r .sized) (a .b) (s .pre .1),
+      rows-bits (M s) (a .o) (a .b) (a .c) (r .sized) (s .pre .1) (s .pre .2) (now (a .rows)) (s .pre .3),
     )
 
-same-length : tie.Need-same-length Inv-loop μ-loop
-same-length c = c .before .loop .inv .1 .in-out .size
+same-length : tie.Need-same-length
+same-length c = search needs
 
-returns : tie.Need-returns Inv-loop μ-loop
+returns : tie.Need-returns
 returns c =
-    let a = c .before .before .before .before .args in
-    let e : c .before .loop .a ≡ a .w = omega arith in
-    subst (λ (n : ℕ). Row (now (a .cells)) (now (a .lay)) (c .before .loop .lay) (now (a .out)) (c .before .loop .out) (a .w) (a .k) (a .j) (a .down) n) e
-    (c .before .loop .inv .1)
+    let q = c .before .before in
+    let n = q .before .before .before .before in
+    let s = n .before .before .before .before .before in
+    let a = s .args in
+    row-done (M s) (a .o) (a .b) (a .c) (s .pre .0 .sized) (s .pre .1) (s .pre .2) (now (a .rows)) (s .pre .3)
+    (q .row-at .last .1 .0) (now (a .out)) (q .row-at .last .1 .1 .0) (rw (k-is n) at (q .row-at .ensures))
 
 pub row-spec : {M : Type 1} → statement M
 row-spec =
     tie.close
     (tie.spec
-    Inv-loop
-    μ-loop
-    loop-holds
-    coord-requires
-    add-i
-    add-y
-    add-own
-    shared-slice-read-met
-    element-copy-out-met
-    element-copy-out-met-2
-    met-requires
-    element-write-lay
-    slice-write-out
-    add-a
-    loop-less
-    loop-again
+    coordinate-requires
+    coordinate-requires-2
+    number-requires
+    mul-row-at
+    row-at-requires
     same-length
     returns)

@@ -5,17 +5,17 @@ use native.Mathlib.Omega.{arith}
 use denote.Ref.{now}
 use lib.ListN.{length}
 use Rattle.mesh.specs.Cells.{mapOf}
-use Rattle.marks.specs.Sweep.{Layer, Swept}
+use Rattle.marks.specs.Sweep.{Layer, Swept, inLayers}
 use Rattle.marks.proofs.Layers.{layers-none, layers-more, layer-next}
 use Rattle.marks.proofs.sweep.sweep.Statement.{statement}
 use Rattle.marks.proofs.sweep.sweep.Tie as tie
 
 abbrev Inv-loop : tie.InvT-loop
-Inv-loop s cells out₀ o lay₀ d c₀ out lay c =
-    (c ≤ d) × (length out ≡ length out₀) × (c < d → Layer (mapOf s cells) o c 0 lay) × Swept (mapOf s cells) o (λ p. p .z < c) out₀ out
+Inv-loop s cells out₀ o rows₀ d c₀ out rows c =
+    (c ≤ d) × (length out ≡ length out₀) × (c < d → Layer (mapOf s cells) o c 0 rows) × Swept (mapOf s cells) o (inLayers c) out₀ out
 
 abbrev μ-loop : tie.MeasureT-loop
-μ-loop s cells out₀ o lay₀ d c₀ out lay c = d - c
+μ-loop s cells out₀ o rows₀ d c₀ out rows c = d - c
 
 first-layer-requires : tie.Need-first-layer-requires Inv-loop μ-loop
 first-layer-requires c κs = c .before .before .pre .sized
@@ -45,7 +45,7 @@ loop-again c =
     let n = c .before .before .layer in (
       omega arith,
       n .kept .1 .1 .1 .0 ∙ at .loop .inv .1,
-      λ l. layer-next (mapOf (a .s) (now (a .cells))) (a .o) (at .loop .c) (n .last .1 .1 .0) l (n .ensures .rows),
+      λ l. layer-next (mapOf (a .s) (now (a .cells))) (a .o) (at .loop .c) (n .last .1 .1 .0) l (n .ensures .layer),
       layers-more (mapOf (a .s) (now (a .cells))) (a .o) (at .loop .c) (n .last .1 .1 .0) (now (a .out)) (at .loop .out) _ (at .loop .inv .3) (n .ensures),
     )
 
@@ -57,7 +57,7 @@ returns c =
     let at = c .before in
     let a = at .before .before .before .before .args in
     let e : at .loop .c ≡ a .s .d = omega arith in
-    subst (λ (n : ℕ). Swept (mapOf (a .s) (now (a .cells))) (a .o) (λ p. p .z < n) (now (a .out)) (at .loop .out)) e (at .loop .inv .3)
+    subst (λ (n : ℕ). Swept (mapOf (a .s) (now (a .cells))) (a .o) (inLayers n) (now (a .out)) (at .loop .out)) e (at .loop .inv .3)
 
 pub sweep-spec : {M : Type 1} → statement M
 sweep-spec =

@@ -1,0 +1,55 @@
+-- What a granted answer shows of its value: a number is below N, a place is in the mesh. So every value fits. Assumes nothing.
+use mathlib.Core.Path.{_≡_, refl, subst}
+use Prim.Native.Nat.{ℕ, _<_}
+use native.Mathlib.Omega.{arith}
+use Rattle.mesh.specs.Mesh.{InRange, Inside, nodes, number, placeOf}
+use Rattle.mesh.specs.Steps.{next}
+use Rattle.mesh.specs.Answers.{numbered, placed, stepped, _andThen_, checkSizes, checkNode, checkPlace, checkDirection, numberAnswer, placeAnswer, stepAnswer}
+use Rattle.mesh.proofs.Answers.{split, sizes-granted, place-granted, node-granted}
+use Rattle.mesh.proofs.Numbers.{number-lt, place-in}
+use Rattle.mesh.proofs.Steps.{next-in}
+use Rattle.mesh.specs.declared.Sizes.{Sizes}
+use Rattle.mesh.specs.declared.Place.{Place}
+use Rattle.mesh.specs.declared.Next.{Next}
+use Rattle.mesh.specs.declared.Next.the-variants.{At}
+use Rattle.mesh.specs.declared.Answer.{Answer}
+use Rattle.mesh.specs.declared.Answer.the-variants.{Done, Refused}
+use Rattle.mesh.specs.declared.Numbered.the-variants.{Number}
+use Rattle.mesh.specs.declared.Placed.the-variants.{Found}
+use Rattle.mesh.specs.declared.Stepped.the-variants.{Led}
+
+-- a value stands where every check is passed
+number-stands : (a : Answer) (n m : ℕ) → numbered a n ≡ Number m → (a ≡ Done) × (n ≡ m)
+number-stands Done n m e = (refl, (cc))
+number-stands (Refused r) n m e = let z : _≡_ {A = ℕ} 0 1 = cc in absurd (omega arith)
+
+place-stands : (a : Answer) (p q : Place) → placed a p ≡ Found q → (a ≡ Done) × (p ≡ q)
+place-stands Done p q e = (refl, (cc))
+place-stands (Refused r) p q e = let z : _≡_ {A = ℕ} 0 1 = cc in absurd (omega arith)
+
+step-stands : (a : Answer) (m n : Next) → stepped a m ≡ Led n → (a ≡ Done) × (m ≡ n)
+step-stands Done m n e = (refl, (cc))
+step-stands (Refused r) m n e = let z : _≡_ {A = ℕ} 0 1 = cc in absurd (omega arith)
+
+module _ (S : Sizes) where
+  pub number-fits : (p : Place) (n : ℕ) → numberAnswer S p ≡ Number n → InRange S × (n < nodes S)
+  unfolding numberAnswer
+  number-fits p n e =
+      let (a, v) = number-stands (checkSizes S andThen checkPlace S p) (number S p) n e in
+      let (s, i) = split (checkSizes S) (checkPlace S p) a in
+      (sizes-granted S s, subst (λ (k : ℕ). k < nodes S) v (number-lt S p (place-granted S p i)))
+
+  pub place-fits : (k : ℕ) (p : Place) → placeAnswer S k ≡ Found p → InRange S × Inside S p
+  unfolding placeAnswer
+  place-fits k p e =
+      let (a, v) = place-stands (checkSizes S andThen checkNode S k) (placeOf S k) p e in
+      let (s, i) = split (checkSizes S) (checkNode S k) a in
+      (sizes-granted S s, subst (Inside S) v (place-in S k (node-granted S k i)))
+
+  pub step-fits : (p : Place) (j : ℕ) (q : Place) → stepAnswer S p j ≡ Led (At q) → InRange S × Inside S q
+  unfolding stepAnswer
+  step-fits p j q e =
+      let (a, v) = step-stands (checkSizes S andThen checkPlace S p andThen checkDirection j) (next S p j) (At q) e in
+      let (b, _) = split (checkSizes S andThen checkPlace S p) (checkDirection j) a in
+      let (s, i) = split (checkSizes S) (checkPlace S p) b in
+      (sizes-granted S s, next-in S p q (place-granted S p i) j v)

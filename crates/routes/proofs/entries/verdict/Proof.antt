@@ -1,0 +1,137 @@
+-- `routes::entries::verdict` meets its contract: a start that is not the end has a path exactly if something is offered. Assumes nothing.
+use mathlib.Core.Path.{_≡_, refl, _∙_, sym, ap, subst}
+use mathlib.Core.Bool.{Bool, true, false}
+use Prim.Native.Nat.{ℕ, _<_}
+use native.Mathlib.Omega.{arith}
+use borrow.Author.Needs.{needs}
+use denote.Ref.{now}
+use lib.Dec.{T}
+use Rattle.mesh.specs.Mesh.{placeOf, Inside}
+use Rattle.mesh.specs.Cells.{Map, mapOf}
+use Rattle.mesh.proofs.Tests.{bool-ext, holds-true}
+use Rattle.mesh.specs.declared.Place.{Place}
+use Rattle.mesh.specs.declared.Answer.the-variants.{Done}
+use Rattle.routes.specs.Differences.{hops}
+use Rattle.routes.specs.Paths.{leads}
+use Rattle.routes.specs.Offered.{offered}
+use Rattle.routes.specs.Entries.{checkEnds, verdictAnswer}
+use Rattle.routes.specs.Sweep.{Ends}
+use Rattle.routes.proofs.Box.{in-largest}
+use Rattle.routes.proofs.Differences.{hops-zero}
+use Rattle.routes.proofs.Offered.{offered-none, offered-leads}
+use Rattle.routes.proofs.Reached.{start-reached}
+use Rattle.routes.proofs.Ends.{ends-granted, verdict-refused, verdict-10, verdict-0}
+use Rattle.routes.specs.declared.Verdict.the-variants.{Granted}
+use Rattle.routes.proofs.entries.verdict.Statement.{statement}
+use Rattle.routes.proofs.entries.verdict.Tie as tie
+
+module _ (m : Map) (p e : Place) (i : Inside (m .sizes) p) where
+  none : offered m e p ≡ 0 → 0 < hops p e → leads m e p e ≡ false
+  none z h = bool-ext (leads m e p e) false (λ t. offered-none m e p i (λ f. omega (arith, hops-zero p e .1 f)) z t) (λ t. absurd t)
+
+  some : 0 < offered m e p → leads m e p e ≡ true
+  some h = holds-true (leads m e p e) .0 (offered-leads m e p i h)
+
+  here : hops p e ≡ 0 → leads m e p e ≡ true
+  here h = subst (λ (q : Place). leads m e p q ≡ true) (hops-zero p e .0 h) (holds-true (leads m e p p) .0 (start-reached m e p i))
+
+-- past the checks
+good : (c : tie.After-enum-told) →
+    let a = c .before .before .before .before .args in
+    checkEnds (a .s) (now (a .cells)) (a .start) (a .end) ≡ Done
+good c = sym (c .before .before .check-ends .ensures) ∙ c .enum-told .given .1
+
+ends : (c : tie.After-enum-told) →
+    let a = c .before .before .before .before .args in
+    Ends (a .s) (now (a .cells)) (placeOf (a .s) (a .start)) (placeOf (a .s) (a .end))
+ends c = let a = c .before .before .before .before .args in ends-granted (a .s) (now (a .cells)) (a .start) (a .end) (good c)
+
+-- the hops and the offered set are those of the two places
+counted : (c : tie.After-hops) →
+    let a = c .before .before .before .before .before .before .before .args in
+    c .hops .result ≡ hops (placeOf (a .s) (a .start)) (placeOf (a .s) (a .end))
+counted c = rw (← c .before .before .place .ensures, ← c .before .place2 .ensures) (c .hops .ensures .0)
+
+set-is : (c : tie.After-offered) →
+    let a = c .before .before .before .before .before .before .before .before .args in
+    c .offered .result ≡ offered (mapOf (a .s) (now (a .cells))) (placeOf (a .s) (a .end)) (placeOf (a .s) (a .start))
+set-is c = rw (← c .before .before .before .place .ensures, ← c .before .before .place2 .ensures) (c .offered .ensures)
+
+granted : (c : tie.After-offered) →
+    let a = c .before .before .before .before .before .before .before .before .args in
+    leads (mapOf (a .s) (now (a .cells))) (placeOf (a .s) (a .end)) (placeOf (a .s) (a .start)) (placeOf (a .s) (a .end)) ≡ true
+    → Granted (c .before .hops .result) (c .offered .result) ≡ verdictAnswer (a .s) (now (a .cells)) (a .start) (a .end)
+granted c l =
+    let a = c .before .before .before .before .before .before .before .before .args in
+    rw (counted (c .before), set-is c) (verdict-0 (a .s) (now (a .cells)) (a .start) (a .end) (good (c .before .before .before .before)) l)
+
+check-ends-requires : tie.Need-check-ends-requires
+check-ends-requires c κs = search needs
+
+enum-known-a : tie.Need-enum-known-a
+enum-known-a c = search needs
+
+returns : tie.Need-returns
+returns c =
+    let a = c .before .before .before .before .before .args in
+    verdict-refused (a .s) (now (a .cells)) (a .start) (a .end) (c .before .a .given .0 .0)
+    (sym (c .before .before .before .check-ends .ensures) ∙ c .before .a .given .1)
+
+enum-told : tie.Need-enum-told
+enum-told c = search needs
+
+place-requires : tie.Need-place-requires
+place-requires c κs = ends c .sized
+
+place-requires-2 : tie.Need-place-requires-2
+place-requires-2 c κs = ends (c .before) .sized
+
+hops-requires : tie.Need-hops-requires
+hops-requires c κs =
+    let k = ends (c .before .before) in
+    let a = c .before .before .before .before .before .before .args in
+    rw (c .before .place .ensures, c .place2 .ensures)
+    (in-largest (a .s) (placeOf (a .s) (a .start)) (k .sized) (k .start-in), in-largest (a .s) (placeOf (a .s) (a .end)) (k .sized) (k .end-in))
+
+offered-requires : tie.Need-offered-requires
+offered-requires c κs = rw (c .before .before .place .ensures, c .before .place2 .ensures) (ends (c .before .before .before))
+
+returns-2 : tie.Need-returns-2
+returns-2 c =
+    let o = c .before .before in
+    let a = o .before .before .before .before .before .before .before .before .args in
+    let k = o .before .before .before .before in
+    verdict-10 (a .s) (now (a .cells)) (a .start) (a .end) (good k)
+    (none (mapOf (a .s) (now (a .cells))) (placeOf (a .s) (a .start)) (placeOf (a .s) (a .end)) (ends k .start-in)
+    (sym (set-is o) ∙ c .before .if1 .taken) (rw (counted (o .before)) at (c .if2 .taken)))
+
+returns-3 : tie.Need-returns-3
+returns-3 c =
+    let o = c .before .before in
+    let a = o .before .before .before .before .before .before .before .before .args in
+    let z : o .before .hops .result ≡ 0 = omega arith in
+    granted o (here (mapOf (a .s) (now (a .cells))) (placeOf (a .s) (a .start)) (placeOf (a .s) (a .end))
+    (ends (o .before .before .before .before) .start-in) (sym (counted (o .before)) ∙ z))
+
+returns-4 : tie.Need-returns-4
+returns-4 c =
+    let o = c .before in
+    let a = o .before .before .before .before .before .before .before .before .args in
+    granted o (some (mapOf (a .s) (now (a .cells))) (placeOf (a .s) (a .start)) (placeOf (a .s) (a .end))
+    (ends (o .before .before .before .before) .start-in) (omega (arith, set-is o)))
+
+pub verdict-spec : {M : Type 1} → statement M
+verdict-spec =
+    tie.close
+    (tie.spec
+    check-ends-requires
+    enum-known-a
+    returns
+    enum-told
+    place-requires
+    place-requires-2
+    hops-requires
+    offered-requires
+    returns-2
+    returns-3
+    returns-4)

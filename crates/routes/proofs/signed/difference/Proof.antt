@@ -1,0 +1,30 @@
+-- `routes::signed::difference` meets its contract: two coordinates and their difference are small. Assumes nothing.
+use borrow.Author.Needs.{needs}
+use mathlib.Core.Path.{refl}
+use native.Mathlib.Omega.{arith}
+use lib.IntN.{subℕ}
+use Rattle.mesh.proofs.Whole.{diff-is, mag-diff, small, back}
+use Rattle.routes.proofs.signed.difference.Statement.{statement}
+use Rattle.routes.proofs.signed.difference.Tie as tie
+
+cast-result : tie.Need-cast-result
+cast-result c = search needs
+
+cast-result-2 : tie.Need-cast-result-2
+cast-result-2 c = search needs
+
+sub-result : tie.Need-sub-result
+sub-result c =
+    let a = c .args in
+    let m = mag-diff (a .to) (a .from) 16 (c .pre .1) (omega arith) in
+    rw (diff-is (a .to) (a .from) (c .pre .1) (c .pre .0)) (small (omega arith))
+
+returns : tie.Need-returns
+returns c =
+    let a = c .args in
+    let m = mag-diff (a .to) (a .from) 16 (c .pre .1) (omega arith) in
+    let b = back (subℕ (a .to) (a .from)) (omega arith) in
+    rw (diff-is (a .to) (a .from) (c .pre .1) (c .pre .0), b) (refl, m)
+
+pub difference-spec : {M : Type 1} → statement M
+difference-spec = tie.close (tie.spec cast-result cast-result-2 sub-result returns)

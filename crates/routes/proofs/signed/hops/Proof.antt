@@ -1,0 +1,68 @@
+-- `routes::signed::hops` meets its contract: no size is above 15. Assumes nothing.
+use mathlib.Core.Path.{_≡_, refl, _∙_, ap}
+use Prim.Native.Nat.{ℕ, _<_}
+use lib.IntN.{ℤ, natAbs}
+use lib.Signed.{mag}
+use mir.Syntax.{w32}
+use mir.Val.{toZ, ofZ}
+use native.Mathlib.Omega.{arith}
+use borrow.Author.Needs.{needs}
+use Rattle.mesh.proofs.Whole.{back}
+use Rattle.routes.specs.Differences.{hops}
+use Rattle.routes.proofs.Differences.{hops-is}
+use Rattle.routes.proofs.signed.hops.Statement.{statement}
+use Rattle.routes.proofs.signed.hops.Tie as tie
+
+-- a difference as the machine passes it on
+sent : (n : ℕ) (z d : ℤ) → n ≡ natAbs (toZ w32 (ofZ w32 z)) → (z ≡ d) × (mag z < 16) → n ≡ natAbs d
+sent n z d e h = e ∙ ap natAbs (back z (omega arith) ∙ h .0)
+
+difference-requires : tie.Need-difference-requires
+difference-requires c κs = search needs
+
+size-requires : tie.Need-size-requires
+size-requires c κs = search needs
+
+difference-requires-2 : tie.Need-difference-requires-2
+difference-requires-2 c κs = search needs
+
+size-requires-2 : tie.Need-size-requires-2
+size-requires-2 c κs = search needs
+
+add-result : tie.Need-add-result
+add-result c = search needs
+
+difference-requires-3 : tie.Need-difference-requires-3
+difference-requires-3 c κs = search needs
+
+size-requires-3 : tie.Need-size-requires-3
+size-requires-3 c κs = search needs
+
+add-result-2 : tie.Need-add-result-2
+add-result-2 c = search needs
+
+returns : tie.Need-returns
+unfolding hops
+returns c =
+    let x = c .before .before .before .before in
+    let y = c .before .before in
+    let a = x .before .before .args in
+    rw (
+      sent _ _ _ (x .size .ensures .0) (x .before .difference .ensures),
+      sent _ _ _ (y .size2 .ensures .0) (y .before .difference2 .ensures),
+      sent _ _ _ (c .size3 .ensures .0) (c .before .difference3 .ensures),
+    ) (refl, omega (arith, hops-is (a .p) (a .e)))
+
+pub hops-spec : {M : Type 1} → statement M
+hops-spec =
+    tie.close
+    (tie.spec
+    difference-requires
+    size-requires
+    difference-requires-2
+    size-requires-2
+    add-result
+    difference-requires-3
+    size-requires-3
+    add-result-2
+    returns)

@@ -1,0 +1,54 @@
+// The public calls on routes. Each takes every input.
+use crate::Verdict;
+use crate::offers::offered;
+use crate::signed::hops;
+use mesh::Answer;
+use mesh::Refusal;
+use mesh::Sizes;
+use mesh::cells::check_map;
+use mesh::cells::may_end;
+ghost use mathlib.Core.Path.{_≡_};
+ghost use Rattle.routes.specs.Entries.{checkEnds, verdictAnswer};
+
+// Refusals 1, 2, 4, 5 and 9.
+fn check_ends(s: Sizes, cells: &[u8], start: usize, end: usize) -> Answer
+    ensures { λ r. ⌜ r ≡ checkEnds s (now (cells .entry)) start end ⌝ }
+{
+    let a = check_map(s, cells);
+    let Answer::Done = a else {
+        return a;
+    };
+    if start >= s.nodes() {
+        return Answer::Refused(Refusal::BadNumber);
+    }
+    if end >= s.nodes() {
+        return Answer::Refused(Refusal::BadNumber);
+    }
+    if !may_end(cells[start]) {
+        return Answer::Refused(Refusal::FaultyEnd);
+    }
+    if !may_end(cells[end]) {
+        return Answer::Refused(Refusal::FaultyEnd);
+    }
+    Answer::Done
+}
+
+// The hops and the offered set at the start: refusals 1, 2, 4, 5, 9 and 10.
+pub fn verdict(s: Sizes, cells: &[u8], start: usize, end: usize) -> Verdict
+    ensures { λ r. ⌜ r ≡ verdictAnswer s (now (cells .entry)) start end ⌝ }
+{
+    let a = check_ends(s, cells, start, end);
+    if let Answer::Refused(r) = a {
+        return Verdict::NotGranted(r);
+    }
+    let p = s.place(start);
+    let e = s.place(end);
+    let h = hops(p, e);
+    let o = offered(s, cells, p, e);
+    if o == 0 {
+        if h > 0 {
+            return Verdict::NotGranted(Refusal::NoPath);
+        }
+    }
+    Verdict::Granted(h, o)
+}

@@ -1,0 +1,64 @@
+// The offered set at the start of a route, from a sweep that begins at its end.
+use crate::Between;
+use crate::Wanted;
+use crate::Ways;
+use crate::boxes::between;
+use crate::signed::difference;
+use crate::signed::way;
+use crate::sweep::entered;
+use crate::sweep::seeded;
+use crate::sweep::sweep;
+use crate::sweep::sweep_layer;
+use mesh::Place;
+use mesh::Sizes;
+ghost use mathlib.Core.Path.{_≡_};
+ghost use Prim.Native.Nat.{_≤_, _<_};
+ghost use lib.Signed.{mag};
+ghost use Rattle.mesh.specs.Cells.{mapOf};
+ghost use Rattle.routes.specs.Differences.{wanted};
+ghost use Rattle.routes.specs.Offered.{offered};
+ghost use Rattle.routes.specs.Box.{far};
+ghost use Rattle.routes.specs.Sweep.{Ready, Ends, WaysTo, flagOf};
+
+// The ways into the far corner of a box. The layer before the last is read where the last one goes over it.
+pub fn ways(s: Sizes, cells: &[u8], g: Between) -> Ways
+    requires { ⌜ Ready s (now cells) g ⌝ }
+    ensures { λ r. ⌜ WaysTo (mapOf s (now (cells .entry))) g (far g) r ⌝ }
+{
+    let a = g.x.steps;
+    let b = g.y.steps;
+    let c = g.z.steps;
+    let k = a + 16 * b;
+    let mut layer = seeded();
+    sweep(s, cells, g, c, &mut layer);
+    let z = entered(&layer, k, 0, c);
+    sweep_layer(s, cells, g, c, &mut layer);
+    Ways {
+        x: entered(&layer, k, 1, a),
+        y: entered(&layer, k, 16, b),
+        z,
+    }
+}
+
+// The bit of the direction that a difference prefers, where the way is seen.
+fn flag(up: usize, d: i32, seen: u8) -> u8
+    requires { ⌜ (up < 5) × (mag d < 16) × (seen ≤ 1) ⌝ }
+    ensures { λ r. ⌜ (r ≡ flagOf (wanted up d) seen) × (r ≤ 32) ⌝ }
+{
+    let w = way(up, d);
+    match w {
+        Wanted::Way(j) => seen << j,
+        Wanted::Level => 0,
+    }
+}
+
+// The offered set at p on the way to e.
+pub fn offered(s: Sizes, cells: &[u8], p: Place, e: Place) -> u8
+    requires { ⌜ Ends s (now cells) p e ⌝ }
+    ensures { λ r. ⌜ r ≡ offered (mapOf s (now (cells .entry))) e p ⌝ }
+{
+    let w = ways(s, cells, between(e, p));
+    flag(0, difference(p.x, e.x), w.x)
+        + flag(2, difference(p.y, e.y), w.y)
+        + flag(4, difference(p.z, e.z), w.z)
+}

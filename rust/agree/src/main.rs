@@ -1,0 +1,116 @@
+//! Compares the library with the independent search program. Prints how many cases of each call agreed, and stops with status 1 at the
+//! first that does not.
+//!
+//!     agree [plain] PROGRAM [WORD..]    the calls as the C program rust/c/serve.c makes them, started by these words
+//!     agree [plain]                     without them
+//!
+//! The calls as the Rust wrapper makes them are compared beside them, where there is an archive for this machine. With `plain` the plain Rust
+//! program, the yardstick for speed, is compared too.
+
+mod call;
+mod comparison;
+mod field;
+mod files;
+mod here;
+mod library;
+mod maps;
+mod marks;
+mod places;
+mod random;
+mod request;
+mod routes;
+
+use call::Call;
+use comparison::{Comparison, Tally};
+use library::{stop, Library, Served};
+use std::sync::Mutex;
+use std::thread;
+
+type Job = Box<dyn FnOnce(&mut Comparison) + Send>;
+
+/// The pieces of the comparison, the longest first.
+fn jobs() -> Vec<Job> {
+    let mut jobs: Vec<Job> = Vec::new();
+    for i in 0..8 {
+        jobs.push(Box::new(move |all| marks::maps(all, i, 8)));
+        jobs.push(Box::new(move |all| routes::random(all, i, 8)));
+        jobs.push(Box::new(move |all| places::shapes(all, i as u32, 8)));
+        jobs.push(Box::new(move |all| field::gossips(all, i, 8)));
+    }
+    for i in 0..4 {
+        jobs.push(Box::new(move |all| routes::small(all, i, 4)));
+    }
+    jobs.push(Box::new(places::bad_numbers));
+    jobs.push(Box::new(marks::refusals));
+    jobs.push(Box::new(routes::refusals));
+    jobs.push(Box::new(field::damaged));
+    jobs.push(Box::new(files::good));
+    jobs.push(Box::new(files::bad));
+    jobs.reverse();
+    jobs
+}
+
+fn open(plain: bool, words: &[String]) -> Vec<Box<dyn Library>> {
+    let mut libraries: Vec<Box<dyn Library>> = Vec::new();
+    if !words.is_empty() {
+        libraries.push(Box::new(Served::start(words)));
+    }
+    if dukthari::LINKED {
+        libraries.push(Box::new(here::LINKED));
+    }
+    if plain {
+        libraries.push(Box::new(here::PLAIN));
+    }
+    libraries
+}
+
+fn main() {
+    let mut words: Vec<String> = std::env::args().skip(1).collect();
+    let plain = words.first().map_or(false, |word| word == "plain");
+    if plain {
+        words.remove(0);
+    }
+    let libraries = open(plain, &words);
+    if libraries.is_empty() {
+        stop("there is no archive for this machine: name a program that serves it");
+    }
+
+    let jobs = Mutex::new(jobs());
+    let next = || jobs.lock().unwrap().pop();
+    let work = || {
+        let mut all = Comparison::new(open(plain, &words));
+        while let Some(job) = next() {
+            job(&mut all);
+        }
+        all.tallies()
+    };
+    let mut tallies = Tally::none();
+    thread::scope(|scope| {
+        let workers = thread::available_parallelism().map_or(1, |n| n.get());
+        let started: Vec<_> = (0..workers).map(|_| scope.spawn(work)).collect();
+        for worker in started {
+            for (tally, other) in tallies.iter_mut().zip(&worker.join().unwrap()) {
+                tally.join(other);
+            }
+        }
+    });
+
+    let asked = |call: Call| libraries.iter().any(|library| library.has(call));
+    let groups: [(Call, fn(&[Tally])); 5] = [
+        (Call::Number, places::expect),
+        (Call::Marks, marks::expect),
+        (Call::Verdict, routes::expect),
+        (Call::Fresh, field::expect),
+        (Call::ReadMap, files::expect),
+    ];
+    for (call, expect) in groups {
+        if asked(call) {
+            expect(&tallies);
+        }
+    }
+    for library in &libraries {
+        for tally in tallies.iter().filter(|tally| library.has(tally.call)) {
+            println!("{}: {tally}", library.name());
+        }
+    }
+}
