@@ -73,6 +73,12 @@ dk_done dk_marks(uint32_t w, uint32_t h, uint32_t d, uint32_t orientation, const
  * Refusals, in order: 1 sizes; 2 cells; 4 a bad cell; 5 a node N or above; 9 an end is faulty; 10 no path. */
 dk_verdict_answer dk_verdict(uint32_t w, uint32_t h, uint32_t d, uint32_t start, uint32_t end, const uint8_t *cells, size_t cells_len);
 
+/* The route: the path that takes the lowest-numbered offered direction at each node. Its node numbers go to the front of out; count is how
+ * many, hops + 1, at most 46. Later places stay.
+ * Refusals, in order: 1 sizes; 2 cells; 4 a bad cell; 5 a node N or above; 9 an end is faulty; 10 no path; 3 out too short. */
+dk_counted dk_route(uint32_t w, uint32_t h, uint32_t d, uint32_t start, uint32_t end, const uint8_t *cells, size_t cells_len,
+                    uint16_t *out, size_t out_len);
+
 /* Is this a sound state of the talking nodes?
  * Refusals, in order: 1 sizes; 2 the state's length; 5 the orientation; 6 unsound. */
 dk_done dk_sound(uint32_t w, uint32_t h, uint32_t d, uint32_t orientation, const uint8_t *state, size_t state_len);

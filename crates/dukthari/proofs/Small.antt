@@ -24,7 +24,7 @@ use Rattle.marks.specs.Entry.{marksAnswer}
 use Rattle.routes.specs.Differences.{hops}
 use Rattle.routes.specs.Paths.{leads}
 use Rattle.routes.specs.Offered.{offered}
-use Rattle.routes.specs.Entries.{judged, checkEnd, checkPath, checkEnds, verdictCheck, verdictAnswer}
+use Rattle.routes.specs.Entries.{judged, checkEnd, checkPath, checkEnds, verdictCheck, verdictAnswer, routeLength, routeCheck, routeAnswer}
 use Rattle.routes.proofs.Differences.{hops-le}
 use Rattle.mapfile.specs.Format.{trailerLength, fileLimit, distance, trailerAt, hasMark, sizesIn, distanceIn, cellsIn}
 use Rattle.mapfile.specs.Entry.{mapRead, checkFrame, checkTrailer, readCheck, readAnswer, writeCheck, writeAnswer}
@@ -116,9 +116,11 @@ read-fits file room =
     made Done S h k = k refl
     made (Refused r) S h k = h
 
-pub verdict-fits : (S : Sizes) (cells : List ℕ) (s e : ℕ) → VerdictFits (verdictAnswer S cells s e)
-unfolding verdictAnswer verdictCheck checkEnds
-verdict-fits S cells s e =
+-- a verdict's bad cell fits, and where it is granted the hops do
+verdict-small : (S : Sizes) (cells : List ℕ) (s e : ℕ)
+    → (answerBad (verdictCheck S cells s e) ≤ 65536) × (verdictCheck S cells s e ≡ Done → hops (placeOf S s) (placeOf S e) ≤ 45)
+unfolding verdictCheck checkEnds
+verdict-small S cells s e =
     let m = mapOf S cells in
     let p = placeOf S s in
     let q = placeOf S e in
@@ -126,22 +128,36 @@ verdict-fits S cells s e =
     let c1 = c0 andThen checkNode S s in
     let c2 = c1 andThen checkNode S e in
     let c3 = c2 andThen checkEnd m p in
-    let c4 = c3 andThen checkEnd m q in
-    made (c4 andThen checkPath m p q) (hops p q) (offered m q p)
-    (bad-and c4 (leads m q p q) NoPath refl
-    (bad-and c3 (mayEnd (cellAt m q)) FaultyEnd refl
-    (bad-and c2 (mayEnd (cellAt m p)) FaultyEnd refl
-    (bad-and c1 (ltb e (nodes S)) BadNumber refl (bad-and c0 (ltb s (nodes S)) BadNumber refl (bad-map S cells))))))
-    (λ g.
-    let g3 = split c3 (checkEnd m q) (split c4 (checkPath m p q) g .0) .0 in
-    let (g1, ke) = split c1 (checkNode S e) (split c2 (checkEnd m p) g3 .0) in
-    let (g0, ks) = split c0 (checkNode S s) g1 in
-    let c = map-granted S cells g0 in
-    omega (arith, hops-le S p q (c .sized) (place-in S s (node-granted S s ks)) (place-in S e (node-granted S e ke))))
+    let c4 = c3 andThen checkEnd m q in (
+      bad-and c4 (leads m q p q) NoPath refl
+          (bad-and c3 (mayEnd (cellAt m q)) FaultyEnd refl
+          (bad-and c2 (mayEnd (cellAt m p)) FaultyEnd refl
+          (bad-and c1 (ltb e (nodes S)) BadNumber refl (bad-and c0 (ltb s (nodes S)) BadNumber refl (bad-map S cells))))),
+      λ g.
+          let g3 = split c3 (checkEnd m q) (split c4 (checkPath m p q) g .0) .0 in
+          let (g1, ke) = split c1 (checkNode S e) (split c2 (checkEnd m p) g3 .0) in
+          let (g0, ks) = split c0 (checkNode S s) g1 in
+          hops-le S p q (map-granted S cells g0 .sized) (place-in S s (node-granted S s ks)) (place-in S e (node-granted S e ke)),
+    )
+
+pub verdict-fits : (S : Sizes) (cells : List ℕ) (s e : ℕ) → VerdictFits (verdictAnswer S cells s e)
+unfolding verdictAnswer
+verdict-fits S cells s e =
+    let (b, k) = verdict-small S cells s e in
+    made (verdictCheck S cells s e) (hops (placeOf S s) (placeOf S e)) (offered (mapOf S cells) (placeOf S e) (placeOf S s)) b (λ g. omega (arith, k g))
   where
     made : (a : Answer) (h o : ℕ) → answerBad a ≤ 65536 → (a ≡ Done → h ≤ 65536) → VerdictFits (judged a h o)
     made Done h o b k = k refl
     made (Refused r) h o b k = b
+
+pub route-fits : (S : Sizes) (cells : List ℕ) (s e room : ℕ) → NumberedFits (routeAnswer S cells s e room)
+unfolding routeAnswer routeCheck
+route-fits S cells s e room =
+    let (b, k) = verdict-small S cells s e in
+    let need = routeLength S s e in
+    numbered-fits (verdictCheck S cells s e andThen checkRoom need room) need
+    (bad-and (verdictCheck S cells s e) (leb need room) NoRoom refl b)
+    (λ g. omega (arith, k (split (verdictCheck S cells s e) (checkRoom need room) g .0)))
 
 -- ---- the calls on a state
 

@@ -15,7 +15,7 @@ ghost use lib.ListN.{length};
 ghost use Rattle.mesh.specs.Mesh.{sizes, place};
 ghost use Rattle.mesh.specs.Answers.{numberAnswer, placeAnswer, stepAnswer};
 ghost use Rattle.marks.specs.Entry.{marksAnswer, marksOut};
-ghost use Rattle.routes.specs.Entries.{verdictAnswer};
+ghost use Rattle.routes.specs.Entries.{verdictAnswer, routeAnswer, routeOut};
 ghost use Rattle.field.specs.Entries.{soundAnswer, outstandingAnswer, hearAnswer, hearOut};
 ghost use Rattle.mapfile.specs.Entry.{readAnswer, readOut, writeAnswer, writeOut};
 ghost use Rattle.dukthari.specs.Answers.{nodeFields, placeFields, stepFields, doneFields, countedFields, verdictFields, mapFields};
@@ -198,6 +198,24 @@ pub extern "C" fn dk_verdict(
 {
     let a = routes::entries::verdict(sizes_of(w, h, d), cells, start as usize, end as usize);
     judged(a)
+}
+
+// The route: its nodes to the front of out, and how many. Refusals: 1, 2, 4, 5, 9, 10, 3.
+#[no_mangle]
+pub extern "C" fn dk_route(
+    w: u32,
+    h: u32,
+    d: u32,
+    start: u32,
+    end: u32,
+    cells: &[u8],
+    out: &mut [u16],
+) -> CountedAnswer
+    ensures { λ r. ⌜ r ≡ countedFields (routeAnswer (sizes w h d) (now (cells .entry)) start end (length (now (out .entry)))) ⌝ }
+    ensures { λ _. ⌜ now (out .exit) ≡ routeOut (sizes w h d) (now (cells .entry)) start end (now (out .entry)) ⌝ }
+{
+    let a = routes::entries::route(sizes_of(w, h, d), cells, start as usize, end as usize, out);
+    counted(a)
 }
 
 // Is the state sound? Refusals: 1, 2, 5, 6.
