@@ -10,7 +10,7 @@ use lib.ListN.{length, length-take}
 use Rattle.mesh.specs.Tools.{between}
 use Rattle.mesh.specs.Mesh.{InRange, inRange, nodes, placeOf}
 use Rattle.mesh.specs.Cells.{mapOf, cellAt, mayEnd, badCell, firstBad}
-use Rattle.mesh.specs.Answers.{refusalBad, answerBad, _andThen_, unless, numbered, checkSizes, checkCells, checkMap, checkOrientation, checkNode, checkRoom}
+use Rattle.mesh.specs.Answers.{refusalBad, answerBad, _andThen_, unless, numbered, answerValue, checkSizes, checkCells, checkMap, checkOrientation, checkNode, checkRoom}
 use Rattle.mesh.proofs.Answers.{split, ok-of, sizes-granted, node-granted, map-granted}
 use Rattle.mesh.proofs.Numbers.{nodes-le, place-in}
 use Rattle.mesh.specs.declared.Sizes.{Sizes}
@@ -18,7 +18,10 @@ use Rattle.mesh.specs.declared.Refusal.{Refusal}
 use Rattle.mesh.specs.declared.Refusal.the-variants.{BadSizes, BadLength, NoRoom, BadCell, BadNumber, FaultyEnd, NoPath, BadFile}
 use Rattle.mesh.specs.declared.Answer.{Answer}
 use Rattle.mesh.specs.declared.Answer.the-variants.{Done, Refused}
+use Rattle.mesh.specs.Marks.{marksOf}
 use Rattle.marks.specs.Entry.{marksAnswer}
+use Rattle.components.specs.Components.{howMany}
+use Rattle.components.specs.Entry.{componentsCheck, componentsAnswer}
 use Rattle.routes.specs.Differences.{hops}
 use Rattle.routes.specs.Paths.{leads}
 use Rattle.routes.specs.Offered.{offered}
@@ -82,6 +85,21 @@ marks-fits S cells o room =
     bad-then 65536 (checkMap S cells andThen checkOrientation o) (checkRoom (nodes S) room)
     (bad-then 65536 (checkMap S cells) (checkOrientation o) (bad-map S cells) (λ _. bad-unless 65536 (leb o 7) BadNumber refl))
     (λ _. bad-unless 65536 (leb (nodes S) room) NoRoom refl)
+
+pub components-fits : (S : Sizes) (cells : List ℕ) (o tableRoom rowRoom : ℕ)
+    → answerValue (componentsCheck S cells o tableRoom rowRoom) (howMany S (marksOf (mapOf S cells) o)) ≤ 1024
+    → NumberedFits (componentsAnswer S cells o tableRoom rowRoom)
+unfolding componentsAnswer componentsCheck
+components-fits S cells o tableRoom rowRoom few =
+    let many = howMany S (marksOf (mapOf S cells) o) in
+    let c0 = checkMap S cells andThen checkOrientation o in
+    numbered-fits (c0 andThen checkRoom (nodes S) tableRoom andThen checkRoom many rowRoom) many
+    (bad-then 65536 (c0 andThen checkRoom (nodes S) tableRoom) (checkRoom many rowRoom)
+    (bad-then 65536 c0 (checkRoom (nodes S) tableRoom)
+    (bad-then 65536 (checkMap S cells) (checkOrientation o) (bad-map S cells) (λ _. bad-unless 65536 (leb o 7) BadNumber refl))
+    (λ _. bad-unless 65536 (leb (nodes S) tableRoom) NoRoom refl))
+    (λ _. bad-unless 65536 (leb many rowRoom) NoRoom refl))
+    (λ e. let k : many ≤ 1024 = subst (λ (a : Answer). answerValue a many ≤ 1024) e few in omega arith)
 
 pub write-fits : (S : Sizes) (cells : List ℕ) (room : ℕ) → NumberedFits (writeAnswer S cells room)
 unfolding writeAnswer writeCheck

@@ -6,6 +6,9 @@ use crate::fields::place_at;
 use crate::fields::read;
 use crate::fields::refusal_no;
 use crate::fields::sizes_of;
+use crate::grouping::compute;
+use components::Component;
+use components::storing::store;
 use mesh::Next;
 use mesh::Numbered;
 use mesh::Placed;
@@ -15,11 +18,13 @@ ghost use lib.ListN.{length};
 ghost use Rattle.mesh.specs.Mesh.{sizes, place};
 ghost use Rattle.mesh.specs.Answers.{numberAnswer, placeAnswer, stepAnswer};
 ghost use Rattle.marks.specs.Entry.{marksAnswer, marksOut};
+ghost use Rattle.components.specs.Entry.{componentsAnswer, componentsTable, componentsRow};
 ghost use Rattle.routes.specs.Entries.{verdictAnswer};
 ghost use Rattle.mapfile.specs.Entry.{readAnswer, readOut, writeAnswer, writeOut};
 ghost use Rattle.dukthari.specs.Answers.{nodeFields, placeFields, stepFields, doneFields, countedFields, verdictFields, mapFields};
 
 mod fields;
+mod grouping;
 
 #[repr(C)]
 pub struct NodeAnswer {
@@ -73,6 +78,13 @@ pub struct MapAnswer {
     pub w: u32,
     pub h: u32,
     pub d: u32,
+}
+
+// The fields of the answer for components, and the records that are still to be stored: none on a refusal.
+pub struct Grouped {
+    pub answer: CountedAnswer,
+    pub count: usize,
+    pub records: [Component; 1024],
 }
 
 // The number of a place. Refusals: 1, 5.
@@ -181,6 +193,26 @@ pub extern "C" fn dk_marks(
 {
     let a = marks::entry::marks(sizes_of(w, h, d), cells, orientation as usize, out);
     done(a)
+}
+
+// The components of a map: the table of numbers, and the row of records. Refusals: 1, 2, 4, 5, 3.
+#[no_mangle]
+pub extern "C" fn dk_components(
+    w: u32,
+    h: u32,
+    d: u32,
+    orientation: u32,
+    cells: &[u8],
+    table: &mut [u16],
+    row: &mut [Component],
+) -> CountedAnswer
+    ensures { λ r. ⌜ (r ≡ countedFields (componentsAnswer (sizes w h d) (now (cells .entry)) orientation (length (now (table .entry))) (length (now (row .entry)))))
+        × (now (table .exit) ≡ componentsTable (sizes w h d) (now (cells .entry)) orientation (now (table .entry)) (now (row .entry)))
+        × (now (row .exit) ≡ componentsRow (sizes w h d) (now (cells .entry)) orientation (now (table .entry)) (now (row .entry))) ⌝ }
+{
+    let found = compute(w, h, d, orientation, cells, table, row.len());
+    store(found.records, found.count, row);
+    found.answer
 }
 
 // The hops and the offered set at the start. Refusals: 1, 2, 4, 5, 9, 10.
