@@ -20,7 +20,7 @@ ghost use Rattle.mesh.specs.Answers.{numberAnswer, placeAnswer, stepAnswer};
 ghost use Rattle.marks.specs.Entry.{marksAnswer, marksOut};
 ghost use Rattle.components.specs.Entry.{componentsAnswer, componentsTable, componentsRow};
 ghost use Rattle.routes.specs.Entries.{verdictAnswer, routeAnswer, routeOut};
-ghost use Rattle.field.specs.Entries.{soundAnswer, outstandingAnswer, hearAnswer, hearOut};
+ghost use Rattle.field.specs.Entries.{freshAnswer, freshOut, soundAnswer, outstandingAnswer, hearAnswer, hearOut};
 ghost use Rattle.mapfile.specs.Entry.{readAnswer, readOut, writeAnswer, writeOut};
 ghost use Rattle.dukthari.specs.Answers.{nodeFields, placeFields, stepFields, doneFields, countedFields, verdictFields, mapFields};
 
@@ -248,6 +248,23 @@ pub extern "C" fn dk_route(
 {
     let a = routes::entries::route(sizes_of(w, h, d), cells, start as usize, end as usize, out);
     counted(a)
+}
+
+// A fresh state of a map. Refusals: 1, 2, 4, 5.
+#[no_mangle]
+pub extern "C" fn dk_fresh(
+    w: u32,
+    h: u32,
+    d: u32,
+    orientation: u32,
+    cells: &[u8],
+    state: &mut [u8],
+) -> DoneAnswer
+    ensures { λ r. ⌜ r ≡ doneFields (freshAnswer (sizes w h d) (now (cells .entry)) orientation (length (now (state .entry)))) ⌝ }
+    ensures { λ _. ⌜ now (state .exit) ≡ freshOut (sizes w h d) (now (cells .entry)) orientation (now (state .entry)) ⌝ }
+{
+    let a = field::entry::fresh(sizes_of(w, h, d), cells, orientation as usize, state);
+    done(a)
 }
 
 // Is the state sound? Refusals: 1, 2, 5, 6.
