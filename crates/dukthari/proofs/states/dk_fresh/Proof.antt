@@ -1,10 +1,10 @@
--- `dukthari::dk_fresh` meets its contract: the answer is passed on, and its bad cell fits. Assumes nothing.
+-- `dukthari::states::dk_fresh` meets its contract: the answer is passed on, and its bad cell fits. Assumes nothing.
 use mathlib.Core.Path.{_∙_, sym, ap}
 use Rattle.dukthari.specs.Answers.{doneFields}
 use Rattle.dukthari.proofs.Small.{fresh-fits}
 use borrow.Author.Needs.{needs}
-use Rattle.dukthari.proofs.dk_fresh.Statement.{statement}
-use Rattle.dukthari.proofs.dk_fresh.Tie as tie
+use Rattle.dukthari.proofs.states.dk_fresh.Statement.{statement}
+use Rattle.dukthari.proofs.states.dk_fresh.Tie as tie
 
 sizes-of-requires : tie.Need-sizes-of-requires
 sizes-of-requires c κs = search needs
