@@ -86,6 +86,11 @@ dk_verdict_answer dk_verdict(uint32_t w, uint32_t h, uint32_t d, uint32_t start,
 dk_counted dk_route(uint32_t w, uint32_t h, uint32_t d, uint32_t start, uint32_t end, const uint8_t *cells, size_t cells_len,
                     uint16_t *out, size_t out_len);
 
+/* A fresh state of the talking nodes for a map: 7 bytes for each node, its own mark byte, then what it has heard from directions 0 to 5.
+ * Refusals, in order: 1 sizes; 2 cells, or a state not exactly 7 * N bytes; 4 a bad cell; 5 the orientation. */
+dk_done dk_fresh(uint32_t w, uint32_t h, uint32_t d, uint32_t orientation, const uint8_t *cells, size_t cells_len,
+                 uint8_t *state, size_t state_len);
+
 /* Is this a sound state of the talking nodes?
  * Refusals, in order: 1 sizes; 2 the state's length; 5 the orientation; 6 unsound. */
 dk_done dk_sound(uint32_t w, uint32_t h, uint32_t d, uint32_t orientation, const uint8_t *state, size_t state_len);

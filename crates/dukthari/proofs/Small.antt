@@ -34,7 +34,7 @@ use Rattle.mapfile.specs.Entry.{mapRead, checkFrame, checkTrailer, readCheck, r
 use Rattle.field.specs.State.{mapIn, pair, says}
 use Rattle.field.specs.Sound.{sound, within}
 use Rattle.field.specs.Hear.{news, outstandingOn, outstanding}
-use Rattle.field.specs.Entries.{checkState, soundAnswer, outstandingAnswer, checkWord, hearAnswer}
+use Rattle.field.specs.Entries.{checkState, freshAnswer, soundAnswer, outstandingAnswer, checkWord, hearAnswer}
 use Rattle.dukthari.specs.Answers.{NumberedFits, VerdictFits, MapFits}
 
 -- a check passes on the bad cell of the first refusal
@@ -182,6 +182,12 @@ route-fits S cells s e room =
 bad-state : (S : Sizes) (long : ℕ) → answerBad (checkState S long) ≤ 65536
 unfolding checkState
 bad-state S long = bad-and (checkSizes S) (eqb long (stateLength S)) BadLength refl (bad-unless 65536 (inRange S) BadSizes refl)
+
+pub fresh-fits : (S : Sizes) (cells : List ℕ) (o room : ℕ) → answerBad (freshAnswer S cells o room) ≤ 65536
+unfolding freshAnswer
+fresh-fits S cells o room =
+    bad-and (checkState S room andThen checkMap S cells) (leb o 7) BadNumber refl
+    (bad-then 65536 (checkState S room) (checkMap S cells) (bad-state S room) (λ _. bad-map S cells))
 
 pub sound-fits : (S : Sizes) (o : ℕ) (s : List ℕ) → answerBad (soundAnswer S o s) ≤ 65536
 unfolding soundAnswer

@@ -3,7 +3,6 @@ use crate::fields::counted;
 use crate::fields::done;
 use crate::fields::judged;
 use crate::fields::place_at;
-use crate::fields::read;
 use crate::fields::refusal_no;
 use crate::fields::sizes_of;
 use crate::grouping::compute;
@@ -20,12 +19,12 @@ ghost use Rattle.mesh.specs.Answers.{numberAnswer, placeAnswer, stepAnswer};
 ghost use Rattle.marks.specs.Entry.{marksAnswer, marksOut};
 ghost use Rattle.components.specs.Entry.{componentsAnswer, componentsTable, componentsRow};
 ghost use Rattle.routes.specs.Entries.{verdictAnswer, routeAnswer, routeOut};
-ghost use Rattle.field.specs.Entries.{soundAnswer, outstandingAnswer, hearAnswer, hearOut};
-ghost use Rattle.mapfile.specs.Entry.{readAnswer, readOut, writeAnswer, writeOut};
-ghost use Rattle.dukthari.specs.Answers.{nodeFields, placeFields, stepFields, doneFields, countedFields, verdictFields, mapFields};
+ghost use Rattle.dukthari.specs.Answers.{nodeFields, placeFields, stepFields, doneFields, countedFields, verdictFields};
 
 mod fields;
+pub mod files;
 mod grouping;
+pub mod states;
 
 #[repr(C)]
 pub struct NodeAnswer {
@@ -247,81 +246,5 @@ pub extern "C" fn dk_route(
     ensures { λ _. ⌜ now (out .exit) ≡ routeOut (sizes w h d) (now (cells .entry)) start end (now (out .entry)) ⌝ }
 {
     let a = routes::entries::route(sizes_of(w, h, d), cells, start as usize, end as usize, out);
-    counted(a)
-}
-
-// Is the state sound? Refusals: 1, 2, 5, 6.
-#[no_mangle]
-pub extern "C" fn dk_sound(w: u32, h: u32, d: u32, orientation: u32, state: &[u8]) -> DoneAnswer
-    ensures { λ r. ⌜ r ≡ doneFields (soundAnswer (sizes w h d) orientation (now (state .entry))) ⌝ }
-{
-    let a = field::entry::sound(sizes_of(w, h, d), orientation as usize, state);
-    done(a)
-}
-
-// How many words are outstanding. Refusals: 1, 2, 5, 6.
-#[no_mangle]
-pub extern "C" fn dk_outstanding(
-    w: u32,
-    h: u32,
-    d: u32,
-    orientation: u32,
-    state: &[u8],
-) -> CountedAnswer
-    ensures { λ r. ⌜ r ≡ countedFields (outstandingAnswer (sizes w h d) orientation (now (state .entry))) ⌝ }
-{
-    let a = field::entry::outstanding(sizes_of(w, h, d), orientation as usize, state);
-    counted(a)
-}
-
-// The listener hears a word from a direction. Refusals: 1, 2, 5, 6, 7, 8.
-#[no_mangle]
-pub extern "C" fn dk_hear(
-    w: u32,
-    h: u32,
-    d: u32,
-    orientation: u32,
-    listener: u32,
-    direction: u32,
-    word: u32,
-    state: &mut [u8],
-) -> DoneAnswer
-    ensures { λ r. ⌜ r ≡ doneFields (hearAnswer (sizes w h d) orientation listener direction word (now (state .entry))) ⌝ }
-    ensures { λ _. ⌜ now (state .exit) ≡ hearOut (sizes w h d) orientation listener direction word (now (state .entry)) ⌝ }
-{
-    let a = field::entry::hear(
-        sizes_of(w, h, d),
-        orientation as usize,
-        listener as usize,
-        direction as usize,
-        word as usize,
-        state,
-    );
-    done(a)
-}
-
-// Reads a map file. Refusals: 11, 1, 11, 3, 4.
-#[no_mangle]
-pub extern "C" fn dk_read_map(file: &[u8], cells: &mut [u8]) -> MapAnswer
-    ensures { λ r. ⌜ r ≡ mapFields (readAnswer (now (file .entry)) (length (now (cells .entry)))) ⌝ }
-    ensures { λ _. ⌜ now (cells .exit) ≡ readOut (now (file .entry)) (now (cells .entry)) ⌝ }
-{
-    let a = mapfile::reader::read_map(file, cells);
-    read(a)
-}
-
-// Writes a map file; its length. Refusals: 1, 2, 4, 3.
-#[no_mangle]
-pub extern "C" fn dk_write_map(
-    w: u32,
-    h: u32,
-    d: u32,
-    cells: &[u8],
-    out: &mut [u8],
-) -> CountedAnswer
-    ensures { λ r. ⌜ r ≡ countedFields (writeAnswer (sizes w h d) (now (cells .entry)) (length (now (out .entry)))) ⌝ }
-    ensures { λ _. ⌜ now (out .exit) ≡ writeOut (sizes w h d) (now (cells .entry)) (now (out .entry)) ⌝ }
-{
-    let a = mapfile::writer::write_map(sizes_of(w, h, d), cells, out);
     counted(a)
 }
