@@ -14,3 +14,4 @@ pub mod Labels
 pub mod Few
 pub mod Nodes
 pub mod Outcomes
+pub mod Held

@@ -5,6 +5,7 @@ pub mod flood;
 pub mod grid;
 pub mod labelling;
 pub mod recording;
+pub mod storing;
 
 use mesh::Numbered;
 

@@ -1,1 +1,2 @@
 pub mod Impostors
+pub mod Small

@@ -1,6 +1,8 @@
 -- The number and values of each answer, as the C boundary returns them. Assumes nothing.
 -- "A granted call returns number 0 with its values. A refusal returns its number and 0 for every value."
-use Rattle.mesh.specs.Answers.{refusalNo}
+use Prim.Native.Nat.{_≤_}
+use Rattle.mesh.specs.Answers.{refusalNo, refusalBad, answerNo, answerBad}
+use Rattle.mesh.specs.declared.Answer.{Answer}
 use Rattle.mesh.specs.declared.Numbered.{Numbered}
 use Rattle.mesh.specs.declared.Numbered.the-variants.{Number, NotNumbered}
 use Rattle.mesh.specs.declared.Placed.{Placed}
@@ -11,6 +13,17 @@ use Rattle.mesh.specs.declared.Stepped.the-variants.{Led, NotStepped}
 use Rattle.dukthari.specs.declared.NodeAnswer.{NodeAnswer}
 use Rattle.dukthari.specs.declared.PlaceAnswer.{PlaceAnswer}
 use Rattle.dukthari.specs.declared.StepAnswer.{StepAnswer}
+use Rattle.dukthari.specs.declared.DoneAnswer.{DoneAnswer}
+use Rattle.dukthari.specs.declared.CountedAnswer.{CountedAnswer}
+use Rattle.dukthari.specs.declared.VerdictAnswer.{VerdictAnswer}
+use Rattle.dukthari.specs.declared.MapAnswer.{MapAnswer}
+use Rattle.routes.specs.Entries.{verdictNo, verdictBad, verdictHops, verdictOffered}
+use Rattle.routes.specs.declared.Verdict.{Verdict}
+use Rattle.routes.specs.declared.Verdict.the-variants.{Granted, NotGranted}
+use Rattle.mapfile.specs.Entry.{readNo, readBad, readSizes}
+use Rattle.mapfile.specs.declared.MapRead.{MapRead}
+use Rattle.mapfile.specs.declared.MapRead.the-variants.{Read, NotRead}
+use Rattle.mesh.specs.Mesh.{InRange}
 
 -- the number of a place
 abbrev pub nodeFields : Numbered → NodeAnswer
@@ -27,3 +40,33 @@ abbrev pub stepFields : Stepped → StepAnswer
 stepFields (Led (At p)) = record { refusal = 0; there = 1; x = p .x; y = p .y; z = p .z }
 stepFields (Led Edge) = record { refusal = 0; there = 0; x = 0; y = 0; z = 0 }
 stepFields (NotStepped r) = record { refusal = refusalNo r; there = 0; x = 0; y = 0; z = 0 }
+
+-- a call without a value: its number, and the first bad cell
+abbrev pub doneFields : Answer → DoneAnswer
+doneFields a = record { refusal = answerNo a; bad = answerBad a }
+
+-- a number, or a length written
+abbrev pub countedFields : Numbered → CountedAnswer
+countedFields (Number n) = record { refusal = 0; bad = 0; count = n }
+countedFields (NotNumbered r) = record { refusal = refusalNo r; bad = refusalBad r; count = 0 }
+
+-- it fits 32 bits
+abbrev pub NumberedFits : Numbered → Type 0
+NumberedFits (Number n) = n ≤ 65536
+NumberedFits (NotNumbered r) = refusalBad r ≤ 65536
+
+-- the verdict
+abbrev pub verdictFields : Verdict → VerdictAnswer
+verdictFields v = record { refusal = verdictNo v; bad = verdictBad v; hops = verdictHops v; offered = verdictOffered v }
+
+abbrev pub VerdictFits : Verdict → Type 0
+VerdictFits (Granted h o) = h ≤ 65536
+VerdictFits (NotGranted r) = refusalBad r ≤ 65536
+
+-- a map that was read
+abbrev pub mapFields : MapRead → MapAnswer
+mapFields a = record { refusal = readNo a; bad = readBad a; w = readSizes a .w; h = readSizes a .h; d = readSizes a .d }
+
+abbrev pub MapFits : MapRead → Type 0
+MapFits (Read S) = InRange S
+MapFits (NotRead r) = refusalBad r ≤ 65536

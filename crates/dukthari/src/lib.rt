@@ -1,15 +1,25 @@
 // The C boundary: every public entry, thin, with no `requires`. include/dukthari.h declares it.
+use crate::fields::counted;
+use crate::fields::done;
+use crate::fields::judged;
+use crate::fields::place_at;
+use crate::fields::read;
+use crate::fields::refusal_no;
+use crate::fields::sizes_of;
 use mesh::Next;
 use mesh::Numbered;
-use mesh::Place;
 use mesh::Placed;
-use mesh::Refusal;
-use mesh::Sizes;
 use mesh::Stepped;
 ghost use mathlib.Core.Path.{_≡_};
+ghost use lib.ListN.{length};
 ghost use Rattle.mesh.specs.Mesh.{sizes, place};
-ghost use Rattle.mesh.specs.Answers.{refusalNo, numberAnswer, placeAnswer, stepAnswer};
-ghost use Rattle.dukthari.specs.Answers.{nodeFields, placeFields, stepFields};
+ghost use Rattle.mesh.specs.Answers.{numberAnswer, placeAnswer, stepAnswer};
+ghost use Rattle.marks.specs.Entry.{marksAnswer, marksOut};
+ghost use Rattle.routes.specs.Entries.{verdictAnswer};
+ghost use Rattle.mapfile.specs.Entry.{readAnswer, readOut, writeAnswer, writeOut};
+ghost use Rattle.dukthari.specs.Answers.{nodeFields, placeFields, stepFields, doneFields, countedFields, verdictFields, mapFields};
+
+mod fields;
 
 #[repr(C)]
 pub struct NodeAnswer {
@@ -35,43 +45,34 @@ pub struct StepAnswer {
     pub z: u32,
 }
 
-fn sizes_of(w: u32, h: u32, d: u32) -> Sizes
-    ensures { λ r. ⌜ r ≡ sizes w h d ⌝ }
-{
-    Sizes {
-        w: w as usize,
-        h: h as usize,
-        d: d as usize,
-    }
+#[repr(C)]
+pub struct DoneAnswer {
+    pub refusal: u32,
+    pub bad: u32,
 }
 
-fn place_at(x: u32, y: u32, z: u32) -> Place
-    ensures { λ r. ⌜ r ≡ place x y z ⌝ }
-{
-    Place {
-        x: x as usize,
-        y: y as usize,
-        z: z as usize,
-    }
+#[repr(C)]
+pub struct CountedAnswer {
+    pub refusal: u32,
+    pub bad: u32,
+    pub count: u32,
 }
 
-// The number of a refusal.
-fn refusal_no(r: Refusal) -> u32
-    ensures { λ n. ⌜ n ≡ refusalNo r ⌝ }
-{
-    match r {
-        Refusal::BadSizes => 1,
-        Refusal::BadLength => 2,
-        Refusal::NoRoom => 3,
-        Refusal::BadCell(_) => 4,
-        Refusal::BadNumber => 5,
-        Refusal::Unsound => 6,
-        Refusal::NoPair => 7,
-        Refusal::NotHeld => 8,
-        Refusal::FaultyEnd => 9,
-        Refusal::NoPath => 10,
-        Refusal::BadFile => 11,
-    }
+#[repr(C)]
+pub struct VerdictAnswer {
+    pub refusal: u32,
+    pub bad: u32,
+    pub hops: u32,
+    pub offered: u32,
+}
+
+#[repr(C)]
+pub struct MapAnswer {
+    pub refusal: u32,
+    pub bad: u32,
+    pub w: u32,
+    pub h: u32,
+    pub d: u32,
 }
 
 // The number of a place. Refusals: 1, 5.
@@ -163,4 +164,63 @@ pub extern "C" fn dk_step(
             z: 0,
         },
     }
+}
+
+// The mark bytes of a map in an orientation. Refusals: 1, 2, 4, 5, 3.
+#[no_mangle]
+pub extern "C" fn dk_marks(
+    w: u32,
+    h: u32,
+    d: u32,
+    orientation: u32,
+    cells: &[u8],
+    out: &mut [u8],
+) -> DoneAnswer
+    ensures { λ r. ⌜ r ≡ doneFields (marksAnswer (sizes w h d) (now (cells .entry)) orientation (length (now (out .entry)))) ⌝ }
+    ensures { λ _. ⌜ now (out .exit) ≡ marksOut (sizes w h d) (now (cells .entry)) orientation (now (out .entry)) ⌝ }
+{
+    let a = marks::entry::marks(sizes_of(w, h, d), cells, orientation as usize, out);
+    done(a)
+}
+
+// The hops and the offered set at the start. Refusals: 1, 2, 4, 5, 9, 10.
+#[no_mangle]
+pub extern "C" fn dk_verdict(
+    w: u32,
+    h: u32,
+    d: u32,
+    start: u32,
+    end: u32,
+    cells: &[u8],
+) -> VerdictAnswer
+    ensures { λ r. ⌜ r ≡ verdictFields (verdictAnswer (sizes w h d) (now (cells .entry)) start end) ⌝ }
+{
+    let a = routes::entries::verdict(sizes_of(w, h, d), cells, start as usize, end as usize);
+    judged(a)
+}
+
+// Reads a map file. Refusals: 11, 1, 11, 3, 4.
+#[no_mangle]
+pub extern "C" fn dk_read_map(file: &[u8], cells: &mut [u8]) -> MapAnswer
+    ensures { λ r. ⌜ r ≡ mapFields (readAnswer (now (file .entry)) (length (now (cells .entry)))) ⌝ }
+    ensures { λ _. ⌜ now (cells .exit) ≡ readOut (now (file .entry)) (now (cells .entry)) ⌝ }
+{
+    let a = mapfile::reader::read_map(file, cells);
+    read(a)
+}
+
+// Writes a map file; its length. Refusals: 1, 2, 4, 3.
+#[no_mangle]
+pub extern "C" fn dk_write_map(
+    w: u32,
+    h: u32,
+    d: u32,
+    cells: &[u8],
+    out: &mut [u8],
+) -> CountedAnswer
+    ensures { λ r. ⌜ r ≡ countedFields (writeAnswer (sizes w h d) (now (cells .entry)) (length (now (out .entry)))) ⌝ }
+    ensures { λ _. ⌜ now (out .exit) ≡ writeOut (sizes w h d) (now (cells .entry)) (now (out .entry)) ⌝ }
+{
+    let a = mapfile::writer::write_map(sizes_of(w, h, d), cells, out);
+    counted(a)
 }

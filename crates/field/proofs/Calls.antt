@@ -11,7 +11,7 @@ use lib.ListN.{getD, length}
 use Rattle.mesh.specs.Mesh.{inRange, nodes}
 use Rattle.mesh.specs.Cells.{Map, stateLength}
 use Rattle.mesh.specs.Marks.{isWord, ruleByte}
-use Rattle.mesh.specs.Answers.{granted, _andThen_, unless, checkMap}
+use Rattle.mesh.specs.Answers.{granted, _andThen_, unless, checkMap, checkOrientation, checkNode, checkDirection}
 use Rattle.mesh.specs.declared.Sizes.{Sizes}
 use Rattle.mesh.specs.declared.Refusal.{Refusal}
 use Rattle.mesh.specs.declared.Answer.{Answer}
@@ -21,7 +21,7 @@ use Rattle.mesh.proofs.Tests.{T-eq, T-le}
 use Rattle.field.specs.State.{own, heard, SameAt, mapIn, pair, says}
 use Rattle.field.specs.Sound.{_noMoreThan_, Sound, SoundOn}
 use Rattle.field.specs.Hear.{addMarks, changed, outstandingOn}
-use Rattle.field.specs.Entries.{checkState, freshAnswer, soundAnswer, outstandingAnswer, hearAnswer, hearOut}
+use Rattle.field.specs.Entries.{checkState, checkWord, freshAnswer, soundAnswer, outstandingAnswer, hearAnswer, hearOut}
 use Rattle.field.proofs.Decide.{within-iff, sound-iff}
 use Rattle.field.proofs.Same.{on-sound, pair-in, outstanding-in}
 use Rattle.field.proofs.Rule.{ruled-same}
@@ -36,9 +36,13 @@ passed : (t : Bool) (r : Refusal) → (unless t r ≡ Done) ↔ T t
 passed true r = (λ e. tt, λ t. refl)
 passed false r = (λ e. let z : _≡_ {A = ℕ} 0 1 = cc in absurd (omega arith), λ t. absurd t)
 
-state-passed : (S : Sizes) (n : ℕ) → (checkState S n ≡ Done) ↔ (T (inRange S) × (n ≡ stateLength S))
+pub state-passed : (S : Sizes) (n : ℕ) → (checkState S n ≡ Done) ↔ (T (inRange S) × (n ≡ stateLength S))
 unfolding checkState
 state-passed S n = simp (checkState, both, passed, T-eq) (λ x. x, λ x. x)
+
+pub numbers-passed : (S : Sizes) (n o k j w : ℕ) → (checkState S n andThen checkOrientation o andThen checkNode S k andThen checkDirection j andThen checkWord w ≡ Done)
+    ↔ (((((T (inRange S) × (n ≡ stateLength S)) × (o ≤ 7)) × (k < nodes S)) × (j ≤ 5)) × T (isWord w))
+numbers-passed S n o k j w = simp (state-passed, both, passed, T-le) (λ x. x, λ x. x)
 
 pub fresh-passed : (S : Sizes) (cells : List ℕ) (o n : ℕ) → (freshAnswer S cells o n ≡ Done)
     ↔ (((T (inRange S) × (n ≡ stateLength S)) × (checkMap S cells ≡ Done)) × (o ≤ 7))

@@ -49,7 +49,7 @@ module _ (m : Map) (o : ℕ) (s : List ℕ) (z : SoundOn m o s) where
   bytes q = own s (number S q)
 
   -- what a working node has heard is what it would read of its neighbours' own bytes, but for words that are still to be heard
-  reads : (k j : ℕ) → k < nodes S → T (worksNode m k) → j < 6
+  pub reads : (k j : ℕ) → k < nodes S → T (worksNode m k) → j < 6
       → (heard s k j ≡ readAt m bytes (p k) j) ⊎ (T (pair m k j) × (readAt m bytes (p k) j ≡ says S s k j))
   reads k j l w h = go (next S (p k) j) refl
     where

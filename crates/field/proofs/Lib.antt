@@ -9,8 +9,10 @@ pub mod Scanned
 pub mod Fresh
 pub mod Hear
 pub mod Calls
+pub mod Taken
 pub mod Later
 pub mod Exact
+pub mod Counted
 pub mod Rounds
 pub mod Exists
 pub mod Promise

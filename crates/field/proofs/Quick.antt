@@ -13,6 +13,7 @@ use Rattle.mesh.specs.Mesh.{Axis, X, Y, Z, InRange}
 use Rattle.mesh.specs.Steps.{along, ahead}
 use Rattle.mesh.specs.Marks.{rule}
 use Rattle.mesh.specs.declared.Sizes.{Sizes}
+use Rattle.mesh.proofs.Bits.{bit-le, bit-and, bit-or}
 use Rattle.mesh.proofs.Tests.{T-and, T-eq, T-all, bool-ext}
 
 -- ---- bytes that are 0 where a test holds
@@ -61,22 +62,6 @@ six-none h want n e =
     ∙ ap (λ (w : ℕ → ℕ). all 6 λ j. eqb (h j) (w j)) (fun-ext e)
 
 -- ---- numbers that are 1 where a test holds, else 0
-
-pub bit-and : (a b : Bool) → bitAnd (bit a) (bit b) ≡ bit (a && b)
-bit-and true true = refl
-bit-and true false = refl
-bit-and false true = refl
-bit-and false false = refl
-
-pub bit-or : (a b : Bool) → bitOr (bit a) (bit b) ≡ bit (a || b)
-bit-or true true = refl
-bit-or true false = refl
-bit-or false true = refl
-bit-or false false = refl
-
-pub bit-le : (b : Bool) → bit b ≤ 1
-bit-le true = omega arith
-bit-le false = omega arith
 
 pub bit-odd : (n : ℕ) → n % 2 ≡ bit (eqb (n % 2) 1)
 bit-odd n = go (n % 2) (mod-lt n (omega arith))

@@ -55,7 +55,7 @@ all-alike : (n : ℕ) → T (isWord n) → T (all 7 (alike n))
 unfolding all fits isWord within has
 all-alike = word-cases (λ n. T (all 7 (alike n))) tt tt tt tt
 
-fits-word : (n b : ℕ) → T (isWord n) → fits n b ≡ isWord b && within b n
+pub fits-word : (n b : ℕ) → T (isWord n) → fits n b ≡ isWord b && within b n
 fits-word n b w = bool-ext (fits n b) (isWord b && within b n)
     (λ t. T-implies (fits n b) (isWord b && within b n) .0 (at (fits-low n b w t) .0) t)
     (λ t. T-implies (isWord b && within b n) (fits n b) .0 (at (word-low (T-and (isWord b) (within b n) .0 t .0)) .1) t)

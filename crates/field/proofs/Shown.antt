@@ -69,7 +69,7 @@ module _ (S : Sizes) (s : List ℕ) where
       shows-down = rw e (down-at a)
 
 -- what the code asks before it reads
-module _ (S : Sizes) (o : ℕ) (s : List ℕ) (r : Ready S o s) where
+module _ (S : Sizes) (s : List ℕ) (r : Ready S s) where
   pub held : (k : ℕ) → k < nodes S → Held s k
   held k h = record { low = omega (arith, nodes-le S (r .sized)); room = omega (arith, r .long) }
 

@@ -1,9 +1,10 @@
 -- The map that a state tells, and who talks to whom. Assumes nothing.
 use mathlib.Core.Path.{_≡_, refl, sym, ap, _∙_}
-use mathlib.Core.Bool.{Bool, true, false, not}
+use mathlib.Core.Bool.{Bool, true, false, not, _&&_}
 use mathlib.Core.List.{List}
 use Prim.Native.Nat.{ℕ, _<_}
 use lib.Dec.{T, eqb}
+use borrow.Author.Tests.{lt-ltb}
 use Rattle.mesh.specs.Tools.{bit}
 use Rattle.mesh.specs.Mesh.{nodes, number, placeOf, Inside}
 use Rattle.mesh.specs.Steps.{next, isAt, numberAt, neighbour}
@@ -17,7 +18,7 @@ use Rattle.mesh.proofs.Tests.{T-and, T-no, T-lt, T-eq, bool-ext}
 use Rattle.mesh.proofs.Tables.{getD-table}
 use Rattle.mesh.proofs.Numbers.{number-of, number-lt, place-in, place-of}
 use Rattle.mesh.proofs.Steps.{next-in, dir-led}
-use Rattle.field.specs.State.{own, cellsIn, mapIn, faultyNode, worksNode, StateOf, pair}
+use Rattle.field.specs.State.{own, cellsIn, mapIn, faultyNode, worksNode, StateOf, pair, says}
 
 -- ---- the map that a state tells
 
@@ -45,6 +46,12 @@ unfolding wall
 wall-in S s p j q i = sym (faulty-place (mapIn S s) q i) ∙ faulty-in S s (number S q) (number-lt S q i)
 
 -- ---- pairs
+
+-- the questions of a pair, answered from the state
+pub pair-is : (S : Sizes) (s : List ℕ) (k j : ℕ) → k < nodes S → neighbour S k j < nodes S
+    → pair (mapIn S s) k j ≡ not (eqb (own s k) 1) && linked (mapIn S s) (placeOf S k) j && not (eqb (says S s k j) 1)
+unfolding pair
+pair-is S s k j l h = rw (lt-ltb k (nodes S) l, faulty-in S s k l, faulty-in S s (neighbour S k j) h)
 
 -- k and the neighbour in direction j, when they talk
 pub record Talks (m : Map) (k j : ℕ) : Type 0 where

@@ -1,13 +1,13 @@
 -- How the code goes through a state: row by row, and byte by byte without branches on what a byte holds. `scan-is` and `news-is` of
 -- proofs/ show that it finds what 01 says. Assumes nothing.
-use mathlib.Core.Bool.{Bool, cond, _&&_, _||_}
+use mathlib.Core.Bool.{Bool, cond, not, _&&_, _||_}
 use mathlib.Core.List.{List}
 use mathlib.Core.Path.{_≡_}
 use Prim.Native.Nat.{ℕ, _+_, _-_, _*_, _/_, _%_, _<_, _≤_}
 use lib.Bits.{bitAnd, bitOr}
 use lib.Dec.{eqb, ltb}
 use lib.ListN.{length}
-use Rattle.mesh.specs.Tools.{bit, all}
+use Rattle.mesh.specs.Tools.{bit, all, sum, count}
 use Rattle.mesh.specs.Mesh.{InRange, number, placeOf}
 use Rattle.mesh.specs.Steps.{reversed}
 use Rattle.mesh.specs.Cells.{stateLength}
@@ -17,9 +17,8 @@ use Rattle.field.specs.State.{own, heard, mapIn}
 use Rattle.field.specs.Sound.{faultyHears}
 
 -- what the checks before the scan have granted
-pub record Ready (S : Sizes) (o : ℕ) (s : List ℕ) : Type 0 where
+pub record Ready (S : Sizes) (s : List ℕ) : Type 0 where
   pub sized : InRange S
-  pub turned : o ≤ 7
   pub long : length s ≡ stateLength S
 
 -- node k has its seven bytes in s
@@ -75,6 +74,16 @@ nodeTest S o s k =
     (all 6 λ j. eqb (heard s k j) (faultyHears (mapIn S s) (placeOf S k) j))
     (eqb (own s k) (quickRule S o (heard s k)) && all 6 λ j. fits (shows S s k j) (heard s k j))
 
--- and those of the nodes of row r
+-- the nodes of row r pass it
 abbrev pub rowTest : Sizes → ℕ → List ℕ → ℕ → Bool
 rowTest S o s r = all (S .w) λ x. nodeTest S o s (x + S .w * r)
+
+-- ---- words outstanding, in a sound state
+
+-- how many of node k's neighbours show it another byte than it has heard
+unfoldable pub nodeNews : Sizes → List ℕ → ℕ → ℕ
+nodeNews S s k = cond (eqb (own s k) 1) 0 (count 6 λ j. not (eqb (shows S s k j) (heard s k j)))
+
+-- in row r
+abbrev pub rowNews : Sizes → List ℕ → ℕ → ℕ
+rowNews S s r = sum (S .w) λ x. nodeNews S s (x + S .w * r)

@@ -7,7 +7,7 @@ use mesh::Place;
 use mesh::Sizes;
 ghost use mathlib.Core.Path.{_≡_};
 ghost use mathlib.Core.Bool.{_&&_};
-ghost use Prim.Native.Nat.{_+_, _-_, _*_, _<_};
+ghost use Prim.Native.Nat.{_+_, _-_, _*_, _<_, _≤_};
 ghost use lib.Dec.{eqb};
 ghost use Rattle.mesh.specs.Tools.{all};
 ghost use Rattle.mesh.specs.Mesh.{Inside, number, placeOf};
@@ -58,7 +58,7 @@ fn loud(state: &[u8], k: usize) -> u8
 
 // 0 if the node at p is right.
 fn node_wrong(s: Sizes, o: usize, state: &[u8], p: Place) -> u8
-    requires { ⌜ Ready s o (now state) × Inside s p ⌝ }
+    requires { ⌜ Ready s (now state) × (o ≤ 7) × Inside s p ⌝ }
     ensures { λ r. ⌜ eqb r 0 ≡ nodeTest s o (now (state .entry)) (number s p) ⌝ }
 {
     let k = s.number(p);
@@ -73,7 +73,7 @@ fn node_wrong(s: Sizes, o: usize, state: &[u8], p: Place) -> u8
 
 // 0 if a row of nodes is right.
 fn row_wrong(s: Sizes, o: usize, state: &[u8], row: usize) -> u8
-    requires { ⌜ Ready s o (now state) × (row < s .h * s .d) ⌝ }
+    requires { ⌜ Ready s (now state) × (o ≤ 7) × (row < s .h * s .d) ⌝ }
     ensures { λ r. ⌜ eqb r 0 ≡ rowTest s o (now (state .entry)) row ⌝ }
 {
     let y = row % s.h;
@@ -87,7 +87,7 @@ fn row_wrong(s: Sizes, o: usize, state: &[u8], row: usize) -> u8
 
 // Is the state sound?
 pub fn all_right(s: Sizes, o: usize, state: &[u8]) -> bool
-    requires { ⌜ Ready s o (now state) ⌝ }
+    requires { ⌜ Ready s (now state) × (o ≤ 7) ⌝ }
     ensures { λ r. ⌜ r ≡ sound s o (now (state .entry)) ⌝ }
 {
     let rows = s.h * s.d;

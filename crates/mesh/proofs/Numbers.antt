@@ -28,6 +28,13 @@ digit-eq w a b r s ha hb e =
 pub nodes-le : (S : Sizes) → InRange S → nodes S ≤ 4096
 nodes-le S r = mul-le-mul (r .w-hi) (mul-le-mul (r .h-hi) (r .d-hi))
 
+-- and at most 256 rows, or nodes of a layer
+pub rows-le : (S : Sizes) → InRange S → S .h * S .d ≤ 256
+rows-le S r = mul-le-mul (r .h-hi) (r .d-hi)
+
+pub layer-le : (S : Sizes) → InRange S → S .w * S .h ≤ 256
+layer-le S r = mul-le-mul (r .w-hi) (r .h-hi)
+
 pub number-lt : (S : Sizes) (p : Place) → Inside S p → number S p < nodes S
 number-lt S p i = digit-lt (i .x-in) (digit-lt (i .y-in) (i .z-in))
 

@@ -5,6 +5,7 @@ use mathlib.Core.Bool.{Bool, true, false}
 use mathlib.Core.List.{List, []}
 use Prim.Native.Nat.{ℕ, zero, suc, _+_, _≤_, _<_}
 use native.Mathlib.Omega.{arith}
+use native.Mathlib.Numerals.{add-one}
 use native.Mathlib.Nat.{eq-or-lt-of-le, le-of-suc-le-suc, not-suc-le-zero}
 use lib.Dec.{T}
 use lib.ListN.{length, getD}
@@ -20,6 +21,16 @@ unfolding table
 getD-table f zero i d h = absurd (not-suc-le-zero h)
 getD-table f (suc n) zero d h = refl
 getD-table f (suc n) (suc i) d h = getD-table (λ k. f (suc k)) n i d (le-of-suc-le-suc h)
+
+pub sum-same : (n : ℕ) (f g : ℕ → ℕ) → ((k : ℕ) → k < n → f k ≡ g k) → sum n f ≡ sum n g
+unfolding sum
+sum-same zero f g e = refl
+sum-same (suc n) f g e = omega (arith, e n (omega arith), sum-same n f g (λ k l. e k (omega arith)))
+
+-- one more, as a loop counts
+pub sum-more : (n : ℕ) (f : ℕ → ℕ) → sum (n + 1) f ≡ f n + sum n f
+unfolding sum
+sum-more n f = rw add-one
 
 pub sum-mono : (n : ℕ) (f g : ℕ → ℕ) → ((k : ℕ) → k < n → f k ≤ g k) → sum n f ≤ sum n g
 unfolding sum

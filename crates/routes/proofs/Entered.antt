@@ -11,10 +11,10 @@ use borrow.Author.Tests.{ltb-true, ne-eqb}
 use Rattle.mesh.specs.Tools.{bit}
 use Rattle.mesh.specs.Mesh.{place, Inside}
 use Rattle.mesh.proofs.Tests.{T-and, T-eq, bool-ext}
+use Rattle.mesh.proofs.Bits.{bit-le}
 use Rattle.mesh.specs.declared.Place.{Place}
 use Rattle.routes.specs.Box.{largest, far}
 use Rattle.routes.specs.Sweep.{Holds, prior, seed, entered, waysOf}
-use Rattle.routes.proofs.Offered.{bit-le}
 use Rattle.routes.specs.declared.Ways.{Ways}
 use Rattle.routes.specs.declared.Between.{Between}
 

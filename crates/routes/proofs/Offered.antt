@@ -15,6 +15,7 @@ use Rattle.mesh.specs.Mesh.{number, Inside}
 use Rattle.mesh.specs.Steps.{next}
 use Rattle.mesh.specs.Cells.{Map}
 use Rattle.mesh.proofs.Tests.{bool-ext, tried}
+use Rattle.mesh.proofs.Bits.{bit-le}
 use Rattle.mesh.proofs.Tables.{sum-zero, sum-part}
 use Rattle.mesh.proofs.Steps.{dir-led, next-in}
 use Rattle.mesh.specs.declared.Place.{Place}
@@ -27,10 +28,6 @@ use Rattle.routes.proofs.Walks.{path-walk}
 use Rattle.routes.proofs.Paths.{mayHop-iff, begins-read, hop-lowers, leads-iff}
 
 -- ---- the offered set
-
-pub bit-le : (b : Bool) → bit b ≤ 1
-bit-le true = omega arith
-bit-le false = omega arith
 
 -- a number with bit j for the test j, of six
 six-lt : (t : ℕ → Bool) → sum 6 (λ j. bit (t j) * 2 ^ j) < 64

@@ -9,12 +9,12 @@ use native.Mathlib.Numerals.{add-one}
 use native.Mathlib.Omega.{arith}
 use lib.ListN.{length, getD, set}
 use lib.Seq.{getD-set-same, getD-set-other}
-use lib.Bits.{bitAnd, bitOr}
 use lib.Dec.{ltb, eqb}
 use borrow.Author.Tests.{ltb-true, ltb-false, lt-ltb, le-ltb, eqb-true, eqb-false, ne-eqb}
 use Rattle.mesh.specs.Tools.{bit}
 use Rattle.mesh.specs.Mesh.{place, nodes, number}
 use Rattle.mesh.specs.Cells.{Map, cellAt, mayPass}
+use Rattle.mesh.proofs.Bits.{bit-and, bit-or}
 use Rattle.mesh.proofs.Numbers.{number-lt}
 use Rattle.mesh.specs.declared.Sizes.{Sizes}
 use Rattle.mesh.specs.declared.Place.{Place}
@@ -73,18 +73,6 @@ module _ (cells old new : List ℕ) (r : Run) (b from a : ℕ) (R : Row cells ol
 -- ---- the bytes of a row
 
 -- bytes that are 0 or 1, joined
-pub bit-or : (a b : Bool) → bitOr (bit a) (bit b) ≡ bit (a || b)
-bit-or true true = refl
-bit-or true false = refl
-bit-or false true = refl
-bit-or false false = refl
-
-pub bit-and : (a b : Bool) → bitAnd (bit a) (bit b) ≡ bit (a && b)
-bit-and true true = refl
-bit-and true false = refl
-bit-and false true = refl
-bit-and false false = refl
-
 joined-bits : (ok y z x : Bool) → joined ok (bit y) (bit z) (bit x) ≡ bit (ok && (y || z || x))
 joined-bits ok y z x = rw (bit-or y z, bit-or (y || z) x) (bit-and ok (y || z || x))
 

@@ -2,12 +2,12 @@
 use mathlib.Core.Path.{_≡_, refl, sym, _∙_, ap}
 use mathlib.Core.Bool.{true, false}
 use Prim.Native.Nat.{ℕ, _-_, _*_, _≤_}
-use native.Mathlib.Nat.{mul-le-mul}
 use native.Mathlib.Omega.{arith}
 use borrow.Author.Tests.{eq-eqb, ne-eqb}
 use denote.Ref.{now}
 use Rattle.mesh.specs.Tools.{all}
 use Rattle.mesh.proofs.Tests.{all-more, all-fails}
+use Rattle.mesh.proofs.Numbers.{rows-le}
 use Rattle.field.specs.Scan.{rowTest}
 use Rattle.field.proofs.Scanned.{scan-is}
 use Rattle.field.proofs.scan.all_right.Statement.{statement}
@@ -20,14 +20,14 @@ abbrev μ-loop : tie.MeasureT-loop
 μ-loop s o state rows row₀ row = rows - row
 
 mul-rows : tie.Need-mul-rows Inv-loop μ-loop
-mul-rows c = let r = c .before .before .pre .sized in omega (arith, mul-le-mul (r .h-hi) (r .d-hi))
+mul-rows c = let s = c .before .before in omega (arith, rows-le (s .args .s) (s .pre .0 .sized))
 
 loop-holds : tie.Need-loop-holds Inv-loop μ-loop
 unfolding all
 loop-holds c = (omega arith, refl)
 
 row-wrong-requires : tie.Need-row-wrong-requires Inv-loop μ-loop
-row-wrong-requires c κs = (c .before .before .before .before .pre, omega arith)
+row-wrong-requires c κs = let s = c .before .before .before .before in (s .pre .0, s .pre .1, omega arith)
 
 returns : tie.Need-returns Inv-loop μ-loop
 returns c =
@@ -36,12 +36,12 @@ returns c =
     let a = s .args in
     let rows = rowTest (a .s) (a .o) (now (a .state)) in
     let bad : rows (r .before .before .loop .row) ≡ false = sym (r .row-wrong .ensures) ∙ ne-eqb (r .row-wrong .result) 0 (c .if1 .taken) in
-    sym (all-fails (a .s .h * a .s .d) rows (r .before .before .loop .row) (omega arith) bad) ∙ scan-is (a .s) (a .o) (now (a .state)) (s .pre .long)
+    sym (all-fails (a .s .h * a .s .d) rows (r .before .before .loop .row) (omega arith) bad) ∙ scan-is (a .s) (a .o) (now (a .state)) (s .pre .0 .long)
 
 add-row : tie.Need-add-row Inv-loop μ-loop
 add-row c =
-    let r = c .before .before .before .before .before .before .pre .sized in
-    omega (arith, mul-le-mul (r .h-hi) (r .d-hi))
+    let s = c .before .before .before .before .before .before in
+    omega (arith, rows-le (s .args .s) (s .pre .0 .sized))
 
 loop-less : tie.Need-loop-less Inv-loop μ-loop
 loop-less c = omega arith
@@ -62,7 +62,7 @@ returns-2 c =
     let a = s .args in
     let rows = rowTest (a .s) (a .o) (now (a .state)) in
     let e : l .row ≡ a .s .h * a .s .d = omega arith in
-    sym (l .inv .1) ∙ ap (λ (n : ℕ). all n rows) e ∙ scan-is (a .s) (a .o) (now (a .state)) (s .pre .long)
+    sym (l .inv .1) ∙ ap (λ (n : ℕ). all n rows) e ∙ scan-is (a .s) (a .o) (now (a .state)) (s .pre .0 .long)
 
 pub all-right-spec : {M : Type 1} → statement M
 all-right-spec =

@@ -32,7 +32,7 @@ loop-holds c = (omega arith, refl)
 node-wrong-requires : tie.Need-node-wrong-requires Inv-loop μ-loop
 node-wrong-requires c κs =
     let s = c .before .before .before .before .before in
-    (s .pre .0, row-in (s .args .s) (s .args .row) (omega (arith, s .pre .0 .sized .h-lo)) (s .pre .1) (c .before .loop .x) (c .loop-test .taken))
+    (s .pre .0, s .pre .1, row-in (s .args .s) (s .args .row) (omega (arith, s .pre .0 .sized .h-lo)) (s .pre .2) (c .before .loop .x) (c .loop-test .taken))
 
 add-x : tie.Need-add-x Inv-loop μ-loop
 add-x c = omega arith

@@ -1,0 +1,143 @@
+-- Every value that a call returns fits 32 bits: a bad cell is a node of the map, hops and lengths are small. Assumes nothing.
+use mathlib.Core.Path.{_≡_, refl, sym, subst, _∙_}
+use mathlib.Core.Bool.{Bool, true, false, cond, _&&_}
+use mathlib.Core.List.{List}
+use Prim.Native.Nat.{ℕ, _+_, _≤_, _<_}
+use native.Mathlib.Omega.{arith}
+use borrow.Author.Tests.{ltb-true, eqb-true}
+use lib.Dec.{ltb, leb, eqb}
+use lib.ListN.{length, length-take}
+use Rattle.mesh.specs.Tools.{between}
+use Rattle.mesh.specs.Mesh.{InRange, inRange, nodes, placeOf}
+use Rattle.mesh.specs.Cells.{mapOf, cellAt, mayEnd, badCell, firstBad}
+use Rattle.mesh.specs.Answers.{refusalBad, answerBad, _andThen_, unless, numbered, checkSizes, checkCells, checkMap, checkOrientation, checkNode, checkRoom}
+use Rattle.mesh.proofs.Answers.{split, ok-of, sizes-granted, node-granted, map-granted}
+use Rattle.mesh.proofs.Numbers.{nodes-le, place-in}
+use Rattle.mesh.specs.declared.Sizes.{Sizes}
+use Rattle.mesh.specs.declared.Refusal.{Refusal}
+use Rattle.mesh.specs.declared.Refusal.the-variants.{BadSizes, BadLength, NoRoom, BadCell, BadNumber, FaultyEnd, NoPath, BadFile}
+use Rattle.mesh.specs.declared.Answer.{Answer}
+use Rattle.mesh.specs.declared.Answer.the-variants.{Done, Refused}
+use Rattle.marks.specs.Entry.{marksAnswer}
+use Rattle.routes.specs.Differences.{hops}
+use Rattle.routes.specs.Paths.{leads}
+use Rattle.routes.specs.Offered.{offered}
+use Rattle.routes.specs.Entries.{judged, checkEnd, checkPath, checkEnds, verdictCheck, verdictAnswer}
+use Rattle.routes.proofs.Differences.{hops-le}
+use Rattle.mapfile.specs.Format.{trailerLength, fileLimit, distance, trailerAt, hasMark, sizesIn, distanceIn, cellsIn}
+use Rattle.mapfile.specs.Entry.{mapRead, checkFrame, checkTrailer, readCheck, readAnswer, writeCheck, writeAnswer}
+use Rattle.dukthari.specs.Answers.{NumberedFits, VerdictFits, MapFits}
+
+-- a check passes on the bad cell of the first refusal
+pub bad-then : (n : ℕ) (a b : Answer) → answerBad a ≤ n → (a ≡ Done → answerBad b ≤ n) → answerBad (a andThen b) ≤ n
+bad-then n Done b h k = k refl
+bad-then n (Refused r) b h k = h
+
+-- and but for cells no check has one
+pub bad-unless : (n : ℕ) (t : Bool) (r : Refusal) → refusalBad r ≡ 0 → answerBad (unless t r) ≤ n
+bad-unless n true r e = omega arith
+bad-unless n false r e = rw e (omega arith)
+
+pub bad-cells : (S : Sizes) (cells : List ℕ) (n : ℕ) → length cells ≤ n → answerBad (checkCells S cells) ≤ n
+bad-cells S cells n h = go (ltb (firstBad (badCell S) cells) (length cells)) refl
+  where
+    go : (t : Bool) → ltb (firstBad (badCell S) cells) (length cells) ≡ t → answerBad (cond t (Refused (BadCell (firstBad (badCell S) cells))) Done) ≤ n
+    go true e = let l = ltb-true (firstBad (badCell S) cells) (length cells) e in omega arith
+    go false e = omega arith
+
+pub bad-map : (S : Sizes) (cells : List ℕ) → answerBad (checkMap S cells) ≤ 65536
+unfolding checkMap
+bad-map S cells =
+    let same = eqb (length cells) (nodes S) in
+    bad-then 65536 (checkSizes S andThen unless same BadLength) (checkCells S cells)
+    (bad-then 65536 (checkSizes S) (unless same BadLength) (bad-unless 65536 (inRange S) BadSizes refl) (λ _. bad-unless 65536 same BadLength refl))
+    (λ e.
+    let (s, l) = split (checkSizes S) (unless same BadLength) e in
+    let f = eqb-true (length cells) (nodes S) (ok-of same BadLength l) in
+    bad-cells S cells 65536 (omega (arith, nodes-le S (sizes-granted S s))))
+
+-- a number that is granted is small, a refusal's bad cell too
+pub numbered-fits : (a : Answer) (n : ℕ) → answerBad a ≤ 65536 → (a ≡ Done → n ≤ 65536) → NumberedFits (numbered a n)
+numbered-fits Done n h k = k refl
+numbered-fits (Refused r) n h k = h
+
+-- ---- the calls
+
+bad-trailer : (file : List ℕ) → answerBad (checkTrailer file) ≤ 65536
+unfolding checkTrailer checkFrame
+bad-trailer file =
+    let S = sizesIn file in
+    let long = between trailerLength fileLimit (length file) in
+    let marked = hasMark file && eqb (trailerAt file 3) 0 in
+    let near = eqb (distanceIn file) (distance S) && leb (distance S) (length file) in
+    bad-then 65536 (unless long BadFile andThen unless marked BadFile andThen checkSizes S) (unless near BadFile)
+    (bad-then 65536 (unless long BadFile andThen unless marked BadFile) (checkSizes S)
+    (bad-then 65536 (unless long BadFile) (unless marked BadFile) (bad-unless 65536 long BadFile refl) (λ _. bad-unless 65536 marked BadFile refl))
+    (λ _. bad-unless 65536 (inRange S) BadSizes refl))
+    (λ _. bad-unless 65536 near BadFile refl)
+
+pub marks-fits : (S : Sizes) (cells : List ℕ) (o room : ℕ) → answerBad (marksAnswer S cells o room) ≤ 65536
+unfolding marksAnswer
+marks-fits S cells o room =
+    bad-then 65536 (checkMap S cells andThen checkOrientation o) (checkRoom (nodes S) room)
+    (bad-then 65536 (checkMap S cells) (checkOrientation o) (bad-map S cells) (λ _. bad-unless 65536 (leb o 7) BadNumber refl))
+    (λ _. bad-unless 65536 (leb (nodes S) room) NoRoom refl)
+
+pub write-fits : (S : Sizes) (cells : List ℕ) (room : ℕ) → NumberedFits (writeAnswer S cells room)
+unfolding writeAnswer writeCheck
+write-fits S cells room =
+    let need = distance S in
+    numbered-fits (checkMap S cells andThen checkRoom need room) need
+    (bad-then 65536 (checkMap S cells) (checkRoom need room) (bad-map S cells) (λ _. bad-unless 65536 (leb need room) NoRoom refl))
+    (λ e. let c = map-granted S cells (split (checkMap S cells) (checkRoom need room) e .0) in omega (arith, nodes-le S (c .sized)))
+
+pub read-fits : (file : List ℕ) (room : ℕ) → MapFits (readAnswer file room)
+unfolding readAnswer readCheck checkTrailer checkFrame cellsIn
+read-fits file room =
+    let S = sizesIn file in
+    let far = unless (eqb (distanceIn file) (distance S) && leb (distance S) (length file)) BadFile in
+    let frame = checkFrame file in
+    let fits = checkRoom (nodes S) room in
+    let sized : checkTrailer file ≡ Done → InRange S = λ e. sizes-granted S (split frame (checkSizes S) (split (frame andThen checkSizes S) far e .0) .1) in
+    let short : InRange S → length (cellsIn file) ≤ 65536 = λ r. simp length-take (omega (arith, nodes-le S r)) in
+    made (checkTrailer file andThen fits andThen checkCells S (cellsIn file)) S
+    (bad-then 65536 (checkTrailer file andThen fits) (checkCells S (cellsIn file))
+    (bad-then 65536 (checkTrailer file) fits (bad-trailer file) (λ _. bad-unless 65536 (leb (nodes S) room) NoRoom refl))
+    (λ e. bad-cells S (cellsIn file) 65536 (short (sized (split (checkTrailer file) fits e .0)))))
+    (λ e. sized (split (checkTrailer file) fits (split (checkTrailer file andThen fits) (checkCells S (cellsIn file)) e .0) .0))
+  where
+    made : (a : Answer) (S : Sizes) → answerBad a ≤ 65536 → (a ≡ Done → InRange S) → MapFits (mapRead a S)
+    made Done S h k = k refl
+    made (Refused r) S h k = h
+
+pub verdict-fits : (S : Sizes) (cells : List ℕ) (s e : ℕ) → VerdictFits (verdictAnswer S cells s e)
+unfolding verdictAnswer verdictCheck checkEnds
+verdict-fits S cells s e =
+    let m = mapOf S cells in
+    let p = placeOf S s in
+    let q = placeOf S e in
+    let c0 = checkMap S cells in
+    let c1 = c0 andThen checkNode S s in
+    let c2 = c1 andThen checkNode S e in
+    let c3 = c2 andThen checkEnd m p in
+    let c4 = c3 andThen checkEnd m q in
+    made (c4 andThen checkPath m p q) (hops p q) (offered m q p)
+    (bad-then 65536 c4 (checkPath m p q)
+    (bad-then 65536 c3 (checkEnd m q)
+    (bad-then 65536 c2 (checkEnd m p)
+    (bad-then 65536 c1 (checkNode S e)
+    (bad-then 65536 c0 (checkNode S s) (bad-map S cells) (λ _. bad-unless 65536 (ltb s (nodes S)) BadNumber refl))
+    (λ _. bad-unless 65536 (ltb e (nodes S)) BadNumber refl))
+    (λ _. bad-unless 65536 (mayEnd (cellAt m p)) FaultyEnd refl))
+    (λ _. bad-unless 65536 (mayEnd (cellAt m q)) FaultyEnd refl))
+    (λ _. bad-unless 65536 (leads m q p q) NoPath refl))
+    (λ g.
+    let g3 = split c3 (checkEnd m q) (split c4 (checkPath m p q) g .0) .0 in
+    let (g1, ke) = split c1 (checkNode S e) (split c2 (checkEnd m p) g3 .0) in
+    let (g0, ks) = split c0 (checkNode S s) g1 in
+    let c = map-granted S cells g0 in
+    omega (arith, hops-le S p q (c .sized) (place-in S s (node-granted S s ks)) (place-in S e (node-granted S e ke))))
+  where
+    made : (a : Answer) (h o : ℕ) → answerBad a ≤ 65536 → (a ≡ Done → h ≤ 65536) → VerdictFits (judged a h o)
+    made Done h o b k = k refl
+    made (Refused r) h o b k = b

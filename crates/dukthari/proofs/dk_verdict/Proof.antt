@@ -1,0 +1,21 @@
+-- `dukthari::dk_verdict` meets its contract: the answer is passed on, and its hops fit. Assumes nothing.
+use mathlib.Core.Path.{_∙_, sym, ap}
+use Rattle.dukthari.proofs.Small.{verdict-fits}
+use borrow.Author.Needs.{needs}
+use Rattle.dukthari.proofs.dk_verdict.Statement.{statement}
+use Rattle.dukthari.proofs.dk_verdict.Tie as tie
+
+sizes-of-requires : tie.Need-sizes-of-requires
+sizes-of-requires c κs = search needs
+
+verdict-requires : tie.Need-verdict-requires
+verdict-requires c κs = search needs
+
+judged-requires : tie.Need-judged-requires
+judged-requires c κs = rw (c .verdict .ensures, c .before .sizes-of .ensures) (verdict-fits _ _ _ _)
+
+returns : tie.Need-returns
+returns c = c .judged .ensures ∙ (rw (c .before .verdict .ensures, c .before .before .sizes-of .ensures))
+
+pub dk-verdict-spec : {M : Type 1} → statement M
+dk-verdict-spec = tie.close (tie.spec sizes-of-requires verdict-requires judged-requires returns)

@@ -1,0 +1,31 @@
+-- `dukthari::fields::done` meets its contract, case by case. Assumes nothing.
+use mathlib.Core.Path.{subst}
+use Prim.Native.Nat.{_≤_}
+use Rattle.mesh.specs.Answers.{answerBad}
+use Rattle.mesh.specs.declared.Answer.{Answer}
+use borrow.Author.Needs.{needs}
+use Rattle.dukthari.proofs.fields.done.Statement.{statement}
+use Rattle.dukthari.proofs.fields.done.Tie as tie
+
+enum-told : tie.Need-enum-told
+enum-told c = search needs
+
+enum-known-a : tie.Need-enum-known-a
+enum-known-a c = search needs
+
+refusal-no-requires : tie.Need-refusal-no-requires
+refusal-no-requires c κs = search needs
+
+refusal-bad-requires : tie.Need-refusal-bad-requires
+refusal-bad-requires c κs = subst (λ (a : Answer). answerBad a ≤ 65536) (c .before .before .a .given .1) (c .before .before .before .before .pre)
+
+returns : tie.Need-returns
+returns c = rw (c .enum-told .given .1)
+
+returns-2 : tie.Need-returns-2
+returns-2 c = rw (c .before .before .before .a .given .1, c .refusal-bad .ensures, c .before .refusal-no .ensures)
+
+pub done-spec : {M : Type 1} → statement M
+done-spec =
+    tie.close
+    (tie.spec enum-told enum-known-a refusal-no-requires refusal-bad-requires returns returns-2)
