@@ -3,15 +3,31 @@
  * Sizes: width w and height h are 2 to 16, depth d is 1 to 16. The mesh has N = w * h * d nodes, at most 4096.
  * Node (x, y, z) has number x + w * (y + h * z).
  * Directions: 0 is +X, 1 -X, 2 +Y, 3 -Y, 4 +Z, 5 -Z.
+ * Orientation 0 to 7: bit 0 set means X runs down, bit 1 Y, bit 2 Z.
+ * A map is N cells, one byte for each node in node order: 0 works, 1 faulty.
  *
- * Every call takes every number: none is undefined on any. In each answer `refusal` is 0 when the call is granted, else the number
- * of the first cause, in the order that stands at the call, and then every other field is 0. The numbers so far:
- *   DK_BAD_SIZES   w, h or d outside its range
- *   DK_BAD_NUMBER  node N or above, place outside the mesh, or direction above 5
+ * Every call takes every number and every length: none is undefined on any. In each answer `refusal` is 0 when the call is granted, else the
+ * number of the first cause, in the order that stands at the call. Then every other field is 0, except that refusal 4 gives the node number
+ * of the first bad cell in `bad`; and nothing that was lent has changed. The numbers:
+ *   DK_BAD_SIZES    w, h or d outside its range
+ *   DK_BAD_LENGTH   cells not exactly N bytes, or a state, the room for a fresh one included, not exactly 7 * N
+ *   DK_NO_ROOM      an output lent is shorter than what is to be written
+ *   DK_BAD_CELL     a cell above 1
+ *   DK_BAD_NUMBER   orientation above 7, node N or above, place outside the mesh, direction above 5, or a word not 0, 2, 4, 6
+ *   DK_UNSOUND      the state is not sound for this orientation
+ *   DK_NO_PAIR      the listener is faulty, or the neighbour is absent or faulty
+ *   DK_NOT_HELD     the word holds a mark that the speaker lacks now
+ *   DK_FAULTY_END   start or end of a route is faulty
+ *   DK_NO_PATH      no path
+ *   DK_BAD_FILE     file: length, mark, zero byte or distance wrong
+ *
+ * A buffer is a pointer and a count of elements; with count 0 the pointer may be NULL. What is written goes to the front of an output that
+ * was lent, and the rest of it is kept. An output overlaps no other buffer of the call. No call keeps a pointer, or memory of its own.
  */
 #ifndef DUKTHARI_H
 #define DUKTHARI_H
 
+#include <stddef.h>
 #include <stdint.h>
 
 #ifdef __cplusplus
@@ -19,11 +35,25 @@ extern "C" {
 #endif
 
 #define DK_BAD_SIZES 1u
+#define DK_BAD_LENGTH 2u
+#define DK_NO_ROOM 3u
+#define DK_BAD_CELL 4u
 #define DK_BAD_NUMBER 5u
+#define DK_UNSOUND 6u
+#define DK_NO_PAIR 7u
+#define DK_NOT_HELD 8u
+#define DK_FAULTY_END 9u
+#define DK_NO_PATH 10u
+#define DK_BAD_FILE 11u
 
+typedef struct { uint32_t refusal, bad; } dk_done;
+typedef struct { uint32_t refusal, bad, count; } dk_counted; /* a number, or a length written */
+typedef struct { uint32_t refusal, bad, hops, offered; } dk_verdict_answer;
+typedef struct { uint32_t refusal, bad, w, h, d; } dk_map_answer;
 typedef struct { uint32_t refusal, node; } dk_node_answer;
 typedef struct { uint32_t refusal, x, y, z; } dk_place_answer;
 typedef struct { uint32_t refusal, there, x, y, z; } dk_step_answer; /* there 0: the mesh ends, and x, y, z are 0 */
+typedef struct { uint16_t count; uint8_t x0, y0, z0, x1, y1, z1; } dk_component; /* nodes; least and greatest coordinates */
 
 /* The number of the node at (x, y, z).
  * Refusals, in order: 1 sizes; 5 a place outside the mesh. */
@@ -36,6 +66,25 @@ dk_place_answer dk_place(uint32_t w, uint32_t h, uint32_t d, uint32_t node);
 /* One step from (x, y, z) in a direction: there is 1 and (x, y, z) the next place, or there is 0 where the mesh ends. That is no refusal.
  * Refusals, in order: 1 sizes; 5 a place outside the mesh, or a direction above 5. */
 dk_step_answer dk_step(uint32_t w, uint32_t h, uint32_t d, uint32_t x, uint32_t y, uint32_t z, uint32_t direction);
+
+/* The marks of a map: one byte for each node, 0 none, 1 faulty, 2 useless, 4 can't-reach, 6 both. Needs room for N.
+ * Refusals, in order: 1 sizes; 2 length; 4 a bad cell; 5 orientation; 3 room. */
+dk_done dk_marks(uint32_t w, uint32_t h, uint32_t d, uint32_t orientation, const uint8_t *cells, size_t cells_len,
+                 uint8_t *out, size_t out_len);
+
+/* Whether a transfer may go from start to end: whether working nodes join them, each the neighbour of the one before and nearer to the end.
+ * hops is the number of steps; offered has bit k set where such a path begins in direction k, 0 if start is end.
+ * Refusals, in order: 1 sizes; 2 length; 4 a bad cell; 5 start or end N or above; 9 start or end faulty; 10 no path. */
+dk_verdict_answer dk_verdict(uint32_t w, uint32_t h, uint32_t d, uint32_t start, uint32_t end, const uint8_t *cells, size_t cells_len);
+
+/* Reads a map file: free notes, N cells, and a trailer of 12 bytes; 12 to 65536 bytes in all. w, h and d are its sizes; its cells are
+ * written to `cells`, which needs room for N.
+ * Refusals, in order: 11 length, mark or zero byte; 1 sizes; 11 distance; 3 room; 4 a bad cell. */
+dk_map_answer dk_read_map(const uint8_t *file, size_t file_len, uint8_t *cells, size_t cells_len);
+
+/* Writes a map file without notes. count is its length, N + 12.
+ * Refusals, in order: 1 sizes; 2 length; 4 a bad cell; 3 room. */
+dk_counted dk_write_map(uint32_t w, uint32_t h, uint32_t d, const uint8_t *cells, size_t cells_len, uint8_t *out, size_t out_len);
 
 #ifdef __cplusplus
 }
