@@ -3,26 +3,23 @@
  * Sizes: width w and height h are 2 to 16, depth d is 1 to 16. The mesh has N = w * h * d nodes, at most 4096.
  * Node (x, y, z) has number x + w * (y + h * z).
  * Directions: 0 is +X, 1 -X, 2 +Y, 3 -Y, 4 +Z, 5 -Z.
- * Orientation 0 to 7: bit 0 set means X runs down, bit 1 Y, bit 2 Z.
- * A map is N cells, one byte for each node in node order: 0 works, 1 faulty.
  *
- * Every call takes every number and every length: none is undefined on any. In each answer `refusal` is 0 when the call is granted, else the
- * number of the first cause, in the order that stands at the call. Then every other field is 0, except that refusal 4 gives the node number
- * of the first bad cell in `bad`; and nothing that was lent has changed. The numbers:
- *   DK_BAD_SIZES    w, h or d outside its range
- *   DK_BAD_LENGTH   cells not exactly N bytes, or a state, the room for a fresh one included, not exactly 7 * N
- *   DK_NO_ROOM      an output lent is shorter than what is to be written
- *   DK_BAD_CELL     a cell above 1
- *   DK_BAD_NUMBER   orientation above 7, node N or above, place outside the mesh, direction above 5, or a word not 0, 2, 4, 6
- *   DK_UNSOUND      the state is not sound for this orientation
- *   DK_NO_PAIR      the listener is faulty, or the neighbour is absent or faulty
- *   DK_NOT_HELD     the word holds a mark that the speaker lacks now
- *   DK_FAULTY_END   start or end of a route is faulty
- *   DK_NO_PATH      no path
- *   DK_BAD_FILE     file: length, mark, zero byte or distance wrong
+ * A cell is 0 (the node works) or 1 (it is faulty). Orientation 0 to 7: bit 0 set means that X runs down, bit 1 Y, bit 2 Z.
  *
- * A buffer is a pointer and a count of elements; with count 0 the pointer may be NULL. What is written goes to the front of an output that
- * was lent, and the rest of it is kept. An output overlaps no other buffer of the call. No call keeps a pointer, or memory of its own.
+ * Every call takes every number and every length: none is undefined on any. In each answer `refusal` is 0 when the call is granted, else
+ * the number of the first cause, in the order that stands at the call, and then every other field is 0, except that refusal 4 gives the
+ * node number of the first bad cell in `bad`. A refused call changes no lent byte. The numbers:
+ *   DK_BAD_SIZES   w, h or d outside its range
+ *   DK_BAD_LENGTH  cells not exactly N bytes, or a state not exactly 7 * N
+ *   DK_NO_ROOM     an output lent is shorter than what is to be written
+ *   DK_BAD_CELL    a cell above 1
+ *   DK_BAD_NUMBER  orientation above 7, node N or above, place outside the mesh, direction above 5, or a word not 0, 2, 4, 6
+ *   DK_UNSOUND     the state is not sound for this orientation
+ *   DK_NO_PAIR     the listener is faulty, or the neighbour is absent or faulty
+ *   DK_NOT_HELD    the word holds a mark that the speaker lacks now
+ *   DK_FAULTY_END  start or end of a route is faulty
+ *   DK_NO_PATH     no path
+ *   DK_BAD_FILE    file: length, mark, zero byte or distance wrong
  */
 #ifndef DUKTHARI_H
 #define DUKTHARI_H
@@ -53,7 +50,6 @@ typedef struct { uint32_t refusal, bad, w, h, d; } dk_map_answer;
 typedef struct { uint32_t refusal, node; } dk_node_answer;
 typedef struct { uint32_t refusal, x, y, z; } dk_place_answer;
 typedef struct { uint32_t refusal, there, x, y, z; } dk_step_answer; /* there 0: the mesh ends, and x, y, z are 0 */
-typedef struct { uint16_t count; uint8_t x0, y0, z0, x1, y1, z1; } dk_component; /* nodes; least and greatest coordinates */
 
 /* The number of the node at (x, y, z).
  * Refusals, in order: 1 sizes; 5 a place outside the mesh. */
@@ -67,23 +63,36 @@ dk_place_answer dk_place(uint32_t w, uint32_t h, uint32_t d, uint32_t node);
  * Refusals, in order: 1 sizes; 5 a place outside the mesh, or a direction above 5. */
 dk_step_answer dk_step(uint32_t w, uint32_t h, uint32_t d, uint32_t x, uint32_t y, uint32_t z, uint32_t direction);
 
-/* The marks of a map: one byte for each node, 0 none, 1 faulty, 2 useless, 4 can't-reach, 6 both. Needs room for N.
- * Refusals, in order: 1 sizes; 2 length; 4 a bad cell; 5 orientation; 3 room. */
+/* The mark byte of each node, in node order: 0 none, 1 faulty, 2 useless, 4 can't-reach, 6 both. N bytes are written to out; later bytes stay.
+ * Refusals, in order: 1 sizes; 2 cells; 4 a bad cell; 5 the orientation; 3 out shorter than N. */
 dk_done dk_marks(uint32_t w, uint32_t h, uint32_t d, uint32_t orientation, const uint8_t *cells, size_t cells_len,
                  uint8_t *out, size_t out_len);
 
-/* Whether a transfer may go from start to end: whether working nodes join them, each the neighbour of the one before and nearer to the end.
- * hops is the number of steps; offered has bit k set where such a path begins in direction k, 0 if start is end.
- * Refusals, in order: 1 sizes; 2 length; 4 a bad cell; 5 start or end N or above; 9 start or end faulty; 10 no path. */
+/* May a transfer go from start to end by a path of Manhattan length through working nodes? Its hops, and the directions offered at the
+ * start: bit k is set when such a path begins in direction k. At the end itself both are 0.
+ * Refusals, in order: 1 sizes; 2 cells; 4 a bad cell; 5 a node N or above; 9 an end is faulty; 10 no path. */
 dk_verdict_answer dk_verdict(uint32_t w, uint32_t h, uint32_t d, uint32_t start, uint32_t end, const uint8_t *cells, size_t cells_len);
 
-/* Reads a map file: free notes, N cells, and a trailer of 12 bytes; 12 to 65536 bytes in all. w, h and d are its sizes; its cells are
- * written to `cells`, which needs room for N.
- * Refusals, in order: 11 length, mark or zero byte; 1 sizes; 11 distance; 3 room; 4 a bad cell. */
+/* Is this a sound state of the talking nodes?
+ * Refusals, in order: 1 sizes; 2 the state's length; 5 the orientation; 6 unsound. */
+dk_done dk_sound(uint32_t w, uint32_t h, uint32_t d, uint32_t orientation, const uint8_t *state, size_t state_len);
+
+/* How many words are outstanding: ordered pairs of working neighbours whose speaker's own byte is not the word heard. 0: settled.
+ * Refusals, in order: 1 sizes; 2 the state's length; 5 the orientation; 6 unsound. */
+dk_counted dk_outstanding(uint32_t w, uint32_t h, uint32_t d, uint32_t orientation, const uint8_t *state, size_t state_len);
+
+/* The listener hears a word from its neighbour in a direction: its marks are added to the byte heard, then the listener's own byte is set
+ * by the rule. A late or repeated word takes nothing away.
+ * Refusals, in order: 1 sizes; 2 the state's length; 5 orientation, listener, direction or word; 6 unsound; 7 no such pair; 8 not held. */
+dk_done dk_hear(uint32_t w, uint32_t h, uint32_t d, uint32_t orientation, uint32_t listener, uint32_t direction, uint32_t word,
+                uint8_t *state, size_t state_len);
+
+/* Reads a map file of 12 to 65,536 bytes: its sizes, and its N cells to the front of cells; later bytes stay.
+ * Refusals, in order: 11 length, mark or zero byte; 1 sizes; 11 distance; 3 cells shorter than N; 4 a bad cell. */
 dk_map_answer dk_read_map(const uint8_t *file, size_t file_len, uint8_t *cells, size_t cells_len);
 
-/* Writes a map file without notes. count is its length, N + 12.
- * Refusals, in order: 1 sizes; 2 length; 4 a bad cell; 3 room. */
+/* Writes a map file without notes to the front of out; count is its length, N + 12. Later bytes stay.
+ * Refusals, in order: 1 sizes; 2 cells; 4 a bad cell; 3 out shorter than N + 12. */
 dk_counted dk_write_map(uint32_t w, uint32_t h, uint32_t d, const uint8_t *cells, size_t cells_len, uint8_t *out, size_t out_len);
 
 #ifdef __cplusplus

@@ -45,6 +45,7 @@ static void layout(void) {
     FIELD(dk_map_answer, w, 8, 4);
     FIELD(dk_map_answer, h, 12, 4);
     FIELD(dk_map_answer, d, 16, 4);
+#ifdef HAS_dk_components
     CHECK(sizeof(dk_component) == 8);
     FIELD(dk_component, count, 0, 2);
     FIELD(dk_component, x0, 2, 1);
@@ -53,6 +54,7 @@ static void layout(void) {
     FIELD(dk_component, x1, 5, 1);
     FIELD(dk_component, y1, 6, 1);
     FIELD(dk_component, z1, 7, 1);
+#endif
 }
 
 static int is_place(dk_place_answer a, uint32_t refusal, uint32_t x, uint32_t y, uint32_t z) {

@@ -30,6 +30,13 @@ const AROUND: [usize; 18] = [
     613,
 ];
 
+// The steps, to be lent on: a constant that is indexed is laid out anew each time.
+pub fn steps_around() -> [usize; 18]
+    ensures { λ r. ⌜ r ≡ around ⌝ }
+{
+    AROUND
+}
+
 // Looks at one place.
 fn visit(grid: &mut [u16], queue: &mut [u16], tail: usize, at: usize, number: u16) -> usize
     requires { ⌜ Sized (now grid) (now queue) × (at < gridSize) × (getD (now grid) at 0 ≡ unseen → tail < gridSize) ⌝ }
@@ -43,40 +50,46 @@ fn visit(grid: &mut [u16], queue: &mut [u16], tail: usize, at: usize, number: u1
     tail + 1
 }
 
-// The distance of a step around a place.
-fn step_around(o: usize) -> usize
-    requires { ⌜ o < 18 ⌝ }
-    ensures { λ r. ⌜ r ≡ getD around o 0 ⌝ }
-{
-    AROUND[o]
-}
-
 // Looks at all places around one.
-fn spread(grid: &mut [u16], queue: &mut [u16], tail: usize, from: usize, number: u16) -> usize
-    requires { ⌜ Sized (now grid) (now queue) × Spot from × (number < unseen) × (howOften (now grid) number ≡ tail) ⌝ }
+fn spread(
+    grid: &mut [u16],
+    queue: &mut [u16],
+    steps: &[usize],
+    tail: usize,
+    from: usize,
+    number: u16,
+) -> usize
+    requires { ⌜ Sized (now grid) (now queue) × Spot from × (number < unseen) × (howOften (now grid) number ≡ tail) × (now steps ≡ around) ⌝ }
     ensures { λ r. ⌜ Spread (now (grid .entry)) (now (queue .entry)) tail from number 18 (now (grid .exit)) (now (queue .exit)) r ⌝ }
 {
     let base = from - 307;
     let mut end = tail;
     for o in 0..18 {
-        end = visit(grid, queue, end, base + step_around(o), number);
+        end = visit(grid, queue, end, base + steps[o], number);
     }
     end
 }
 
 // Gives the number to the component of a place; how many nodes it has.
-pub fn flood(grid: &mut [u16], queue: &mut [u16], start: usize, number: u16) -> usize
+pub fn flood(
+    grid: &mut [u16],
+    queue: &mut [u16],
+    steps: &[usize],
+    start: usize,
+    number: u16,
+) -> usize
     requires { ⌜ Sized (now grid) (now queue) × (number < unseen)
         × (getD (now grid) start 0 ≡ unseen)
         × ((j : ℕ) → getD (now grid) j 0 ≡ unseen → Spot j)
-        × ((j : ℕ) → getD (now grid) j 0 ≡ number → ⊥) ⌝ }
+        × ((j : ℕ) → getD (now grid) j 0 ≡ number → ⊥)
+        × (now steps ≡ around) ⌝ }
     ensures { λ r. ⌜ Flooded (now (grid .entry)) start number (now (grid .exit)) (now (queue .exit)) r ⌝ }
 {
     let mut tail = visit(grid, queue, 0, start, number);
     let mut head = 0;
     while head < tail {
         let from = queue[head] as usize;
-        tail = spread(grid, queue, tail, from, number);
+        tail = spread(grid, queue, steps, tail, from, number);
         head += 1;
     }
     tail

@@ -3,6 +3,7 @@ use crate::Component;
 use crate::Found;
 use crate::flood::UNSEEN;
 use crate::flood::flood;
+use crate::flood::steps_around;
 use crate::recording::record_of;
 ghost use mathlib.Core.Path.{_≡_};
 ghost use Prim.Native.Nat.{ℕ, _+_, _<_, _≤_};
@@ -35,6 +36,7 @@ pub fn label(grid: &mut [u16]) -> Found
     requires { ⌜ (length (now grid) ≡ gridSize) × Untouched (now grid) ⌝ }
     ensures { λ r. ⌜ Labelled (now (grid .entry)) gridSize (r .count) (now (grid .exit)) (r .records) × (length (r .records) ≡ 1024) × (r .count ≤ 1024) ⌝ }
 {
+    let steps = steps_around();
     let mut queue = blank_queue();
     let mut records = blank_records();
     let mut n = 0;
@@ -42,7 +44,7 @@ pub fn label(grid: &mut [u16]) -> Found
         if grid[at] != UNSEEN {
             continue;
         }
-        let count = flood(grid, &mut queue, at, (n + 1) as u16);
+        let count = flood(grid, &mut queue, &steps, at, (n + 1) as u16);
         records[n] = record_of(&queue, count);
         n += 1;
     }

@@ -2,20 +2,22 @@
 use mathlib.Core.Path.{_≡_, refl, sym, subst, _∙_}
 use mathlib.Core.Bool.{Bool, true, false, cond, _&&_}
 use mathlib.Core.List.{List}
-use Prim.Native.Nat.{ℕ, _+_, _≤_, _<_}
+use Prim.Native.Nat.{ℕ, zero, suc, _+_, _*_, _≤_, _<_}
+use native.Mathlib.Nat.{mul-suc}
 use native.Mathlib.Omega.{arith}
 use borrow.Author.Tests.{ltb-true, eqb-true}
 use lib.Dec.{ltb, leb, eqb}
 use lib.ListN.{length, length-take}
-use Rattle.mesh.specs.Tools.{between}
+use Rattle.mesh.specs.Tools.{between, bit, sum, count}
 use Rattle.mesh.specs.Mesh.{InRange, inRange, nodes, placeOf}
-use Rattle.mesh.specs.Cells.{mapOf, cellAt, mayEnd, badCell, firstBad}
-use Rattle.mesh.specs.Answers.{refusalBad, answerBad, _andThen_, unless, numbered, checkSizes, checkCells, checkMap, checkOrientation, checkNode, checkRoom}
+use Rattle.mesh.specs.Cells.{mapOf, cellAt, mayEnd, badCell, firstBad, stateLength}
+use Rattle.mesh.specs.Marks.{isWord}
+use Rattle.mesh.specs.Answers.{refusalBad, answerBad, _andThen_, unless, numbered, checkSizes, checkCells, checkMap, checkOrientation, checkNode, checkDirection, checkRoom}
 use Rattle.mesh.proofs.Answers.{split, ok-of, sizes-granted, node-granted, map-granted}
 use Rattle.mesh.proofs.Numbers.{nodes-le, place-in}
 use Rattle.mesh.specs.declared.Sizes.{Sizes}
 use Rattle.mesh.specs.declared.Refusal.{Refusal}
-use Rattle.mesh.specs.declared.Refusal.the-variants.{BadSizes, BadLength, NoRoom, BadCell, BadNumber, FaultyEnd, NoPath, BadFile}
+use Rattle.mesh.specs.declared.Refusal.the-variants.{BadSizes, BadLength, NoRoom, BadCell, BadNumber, Unsound, NoPair, NotHeld, FaultyEnd, NoPath, BadFile}
 use Rattle.mesh.specs.declared.Answer.{Answer}
 use Rattle.mesh.specs.declared.Answer.the-variants.{Done, Refused}
 use Rattle.marks.specs.Entry.{marksAnswer}
@@ -26,6 +28,10 @@ use Rattle.routes.specs.Entries.{judged, checkEnd, checkPath, checkEnds, verdic
 use Rattle.routes.proofs.Differences.{hops-le}
 use Rattle.mapfile.specs.Format.{trailerLength, fileLimit, distance, trailerAt, hasMark, sizesIn, distanceIn, cellsIn}
 use Rattle.mapfile.specs.Entry.{mapRead, checkFrame, checkTrailer, readCheck, readAnswer, writeCheck, writeAnswer}
+use Rattle.field.specs.State.{mapIn, pair, says}
+use Rattle.field.specs.Sound.{sound, within}
+use Rattle.field.specs.Hear.{news, outstandingOn, outstanding}
+use Rattle.field.specs.Entries.{checkState, soundAnswer, outstandingAnswer, checkWord, hearAnswer}
 use Rattle.dukthari.specs.Answers.{NumberedFits, VerdictFits, MapFits}
 
 -- a check passes on the bad cell of the first refusal
@@ -37,6 +43,9 @@ bad-then n (Refused r) b h k = h
 pub bad-unless : (n : ℕ) (t : Bool) (r : Refusal) → refusalBad r ≡ 0 → answerBad (unless t r) ≤ n
 bad-unless n true r e = omega arith
 bad-unless n false r e = rw e (omega arith)
+
+pub bad-and : (a : Answer) (t : Bool) (r : Refusal) → refusalBad r ≡ 0 → answerBad a ≤ 65536 → answerBad (a andThen unless t r) ≤ 65536
+bad-and a t r e h = bad-then 65536 a (unless t r) h (λ _. bad-unless 65536 t r e)
 
 pub bad-cells : (S : Sizes) (cells : List ℕ) (n : ℕ) → length cells ≤ n → answerBad (checkCells S cells) ≤ n
 bad-cells S cells n h = go (ltb (firstBad (badCell S) cells) (length cells)) refl
@@ -50,7 +59,7 @@ unfolding checkMap
 bad-map S cells =
     let same = eqb (length cells) (nodes S) in
     bad-then 65536 (checkSizes S andThen unless same BadLength) (checkCells S cells)
-    (bad-then 65536 (checkSizes S) (unless same BadLength) (bad-unless 65536 (inRange S) BadSizes refl) (λ _. bad-unless 65536 same BadLength refl))
+    (bad-and (checkSizes S) same BadLength refl (bad-unless 65536 (inRange S) BadSizes refl))
     (λ e.
     let (s, l) = split (checkSizes S) (unless same BadLength) e in
     let f = eqb-true (length cells) (nodes S) (ok-of same BadLength l) in
@@ -70,25 +79,22 @@ bad-trailer file =
     let long = between trailerLength fileLimit (length file) in
     let marked = hasMark file && eqb (trailerAt file 3) 0 in
     let near = eqb (distanceIn file) (distance S) && leb (distance S) (length file) in
-    bad-then 65536 (unless long BadFile andThen unless marked BadFile andThen checkSizes S) (unless near BadFile)
-    (bad-then 65536 (unless long BadFile andThen unless marked BadFile) (checkSizes S)
-    (bad-then 65536 (unless long BadFile) (unless marked BadFile) (bad-unless 65536 long BadFile refl) (λ _. bad-unless 65536 marked BadFile refl))
-    (λ _. bad-unless 65536 (inRange S) BadSizes refl))
-    (λ _. bad-unless 65536 near BadFile refl)
+    bad-and (unless long BadFile andThen unless marked BadFile andThen checkSizes S) near BadFile refl
+    (bad-and (unless long BadFile andThen unless marked BadFile) (inRange S) BadSizes refl
+    (bad-and (unless long BadFile) marked BadFile refl (bad-unless 65536 long BadFile refl)))
 
 pub marks-fits : (S : Sizes) (cells : List ℕ) (o room : ℕ) → answerBad (marksAnswer S cells o room) ≤ 65536
 unfolding marksAnswer
 marks-fits S cells o room =
-    bad-then 65536 (checkMap S cells andThen checkOrientation o) (checkRoom (nodes S) room)
-    (bad-then 65536 (checkMap S cells) (checkOrientation o) (bad-map S cells) (λ _. bad-unless 65536 (leb o 7) BadNumber refl))
-    (λ _. bad-unless 65536 (leb (nodes S) room) NoRoom refl)
+    bad-and (checkMap S cells andThen checkOrientation o) (leb (nodes S) room) NoRoom refl
+    (bad-and (checkMap S cells) (leb o 7) BadNumber refl (bad-map S cells))
 
 pub write-fits : (S : Sizes) (cells : List ℕ) (room : ℕ) → NumberedFits (writeAnswer S cells room)
 unfolding writeAnswer writeCheck
 write-fits S cells room =
     let need = distance S in
     numbered-fits (checkMap S cells andThen checkRoom need room) need
-    (bad-then 65536 (checkMap S cells) (checkRoom need room) (bad-map S cells) (λ _. bad-unless 65536 (leb need room) NoRoom refl))
+    (bad-and (checkMap S cells) (leb need room) NoRoom refl (bad-map S cells))
     (λ e. let c = map-granted S cells (split (checkMap S cells) (checkRoom need room) e .0) in omega (arith, nodes-le S (c .sized)))
 
 pub read-fits : (file : List ℕ) (room : ℕ) → MapFits (readAnswer file room)
@@ -102,7 +108,7 @@ read-fits file room =
     let short : InRange S → length (cellsIn file) ≤ 65536 = λ r. simp length-take (omega (arith, nodes-le S r)) in
     made (checkTrailer file andThen fits andThen checkCells S (cellsIn file)) S
     (bad-then 65536 (checkTrailer file andThen fits) (checkCells S (cellsIn file))
-    (bad-then 65536 (checkTrailer file) fits (bad-trailer file) (λ _. bad-unless 65536 (leb (nodes S) room) NoRoom refl))
+    (bad-and (checkTrailer file) (leb (nodes S) room) NoRoom refl (bad-trailer file))
     (λ e. bad-cells S (cellsIn file) 65536 (short (sized (split (checkTrailer file) fits e .0)))))
     (λ e. sized (split (checkTrailer file) fits (split (checkTrailer file andThen fits) (checkCells S (cellsIn file)) e .0) .0))
   where
@@ -122,15 +128,10 @@ verdict-fits S cells s e =
     let c3 = c2 andThen checkEnd m p in
     let c4 = c3 andThen checkEnd m q in
     made (c4 andThen checkPath m p q) (hops p q) (offered m q p)
-    (bad-then 65536 c4 (checkPath m p q)
-    (bad-then 65536 c3 (checkEnd m q)
-    (bad-then 65536 c2 (checkEnd m p)
-    (bad-then 65536 c1 (checkNode S e)
-    (bad-then 65536 c0 (checkNode S s) (bad-map S cells) (λ _. bad-unless 65536 (ltb s (nodes S)) BadNumber refl))
-    (λ _. bad-unless 65536 (ltb e (nodes S)) BadNumber refl))
-    (λ _. bad-unless 65536 (mayEnd (cellAt m p)) FaultyEnd refl))
-    (λ _. bad-unless 65536 (mayEnd (cellAt m q)) FaultyEnd refl))
-    (λ _. bad-unless 65536 (leads m q p q) NoPath refl))
+    (bad-and c4 (leads m q p q) NoPath refl
+    (bad-and c3 (mayEnd (cellAt m q)) FaultyEnd refl
+    (bad-and c2 (mayEnd (cellAt m p)) FaultyEnd refl
+    (bad-and c1 (ltb e (nodes S)) BadNumber refl (bad-and c0 (ltb s (nodes S)) BadNumber refl (bad-map S cells))))))
     (λ g.
     let g3 = split c3 (checkEnd m q) (split c4 (checkPath m p q) g .0) .0 in
     let (g1, ke) = split c1 (checkNode S e) (split c2 (checkEnd m p) g3 .0) in
@@ -141,3 +142,52 @@ verdict-fits S cells s e =
     made : (a : Answer) (h o : ℕ) → answerBad a ≤ 65536 → (a ≡ Done → h ≤ 65536) → VerdictFits (judged a h o)
     made Done h o b k = k refl
     made (Refused r) h o b k = b
+
+-- ---- the calls on a state
+
+bad-state : (S : Sizes) (long : ℕ) → answerBad (checkState S long) ≤ 65536
+unfolding checkState
+bad-state S long = bad-and (checkSizes S) (eqb long (stateLength S)) BadLength refl (bad-unless 65536 (inRange S) BadSizes refl)
+
+pub sound-fits : (S : Sizes) (o : ℕ) (s : List ℕ) → answerBad (soundAnswer S o s) ≤ 65536
+unfolding soundAnswer
+sound-fits S o s =
+    bad-and (checkState S (length s) andThen checkOrientation o) (sound S o s) Unsound refl
+    (bad-and (checkState S (length s)) (leb o 7) BadNumber refl (bad-state S (length s)))
+
+pub hear-fits : (S : Sizes) (o k j w : ℕ) (s : List ℕ) → answerBad (hearAnswer S o k j w s) ≤ 65536
+unfolding hearAnswer
+hear-fits S o k j w s =
+    let c1 = checkState S (length s) in
+    let c2 = c1 andThen checkOrientation o in
+    let c3 = c2 andThen checkNode S k in
+    let c4 = c3 andThen checkDirection j in
+    let c5 = c4 andThen checkWord w in
+    let c6 = c5 andThen unless (sound S o s) Unsound in
+    let c7 = c6 andThen unless (pair (mapIn S s) k j) NoPair in
+    bad-and c7 (within w (says S s k j)) NotHeld refl
+    (bad-and c6 (pair (mapIn S s) k j) NoPair refl
+    (bad-and c5 (sound S o s) Unsound refl
+    (bad-and c4 (isWord w) BadNumber refl
+    (bad-and c3 (leb j 5) BadNumber refl
+    (bad-and c2 (ltb k (nodes S)) BadNumber refl (bad-and c1 (leb o 7) BadNumber refl (bad-state S (length s))))))))
+
+-- a sum of small numbers is small
+sum-le : (n b : ℕ) (f : ℕ → ℕ) → ((k : ℕ) → f k ≤ b) → sum n f ≤ b * n
+unfolding sum
+sum-le zero b f h = omega arith
+sum-le (suc n) b f h = omega (arith, mul-suc b n, h n, sum-le n b f h)
+
+bit-le : (t : Bool) → bit t ≤ 1
+bit-le true = omega arith
+bit-le false = omega arith
+
+pub outstanding-fits : (S : Sizes) (o : ℕ) (s : List ℕ) → NumberedFits (outstandingAnswer S o s)
+unfolding outstandingAnswer outstanding outstandingOn soundAnswer checkState
+outstanding-fits S o s =
+    numbered-fits (soundAnswer S o s) (outstanding S s) (sound-fits S o s) (λ e.
+    let c1 = checkState S (length s) in
+    let c2 = c1 andThen checkOrientation o in
+    let sized = sizes-granted S (split (checkSizes S) (unless (eqb (length s) (stateLength S)) BadLength) (split c1 (checkOrientation o) (split c2 (unless (sound S o s) Unsound) e .0) .0) .0) in
+    let six : (k : ℕ) → count 6 (news (mapIn S s) s k) ≤ 6 = λ k. omega (arith, sum-le 6 1 (λ j. bit (news (mapIn S s) s k j)) (λ j. bit-le (news (mapIn S s) s k j))) in
+    omega (arith, sum-le (nodes S) 6 (λ k. count 6 (news (mapIn S s) s k)) six, nodes-le S sized))

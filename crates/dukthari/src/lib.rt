@@ -16,6 +16,7 @@ ghost use Rattle.mesh.specs.Mesh.{sizes, place};
 ghost use Rattle.mesh.specs.Answers.{numberAnswer, placeAnswer, stepAnswer};
 ghost use Rattle.marks.specs.Entry.{marksAnswer, marksOut};
 ghost use Rattle.routes.specs.Entries.{verdictAnswer};
+ghost use Rattle.field.specs.Entries.{soundAnswer, outstandingAnswer, hearAnswer, hearOut};
 ghost use Rattle.mapfile.specs.Entry.{readAnswer, readOut, writeAnswer, writeOut};
 ghost use Rattle.dukthari.specs.Answers.{nodeFields, placeFields, stepFields, doneFields, countedFields, verdictFields, mapFields};
 
@@ -197,6 +198,56 @@ pub extern "C" fn dk_verdict(
 {
     let a = routes::entries::verdict(sizes_of(w, h, d), cells, start as usize, end as usize);
     judged(a)
+}
+
+// Is the state sound? Refusals: 1, 2, 5, 6.
+#[no_mangle]
+pub extern "C" fn dk_sound(w: u32, h: u32, d: u32, orientation: u32, state: &[u8]) -> DoneAnswer
+    ensures { λ r. ⌜ r ≡ doneFields (soundAnswer (sizes w h d) orientation (now (state .entry))) ⌝ }
+{
+    let a = field::entry::sound(sizes_of(w, h, d), orientation as usize, state);
+    done(a)
+}
+
+// How many words are outstanding. Refusals: 1, 2, 5, 6.
+#[no_mangle]
+pub extern "C" fn dk_outstanding(
+    w: u32,
+    h: u32,
+    d: u32,
+    orientation: u32,
+    state: &[u8],
+) -> CountedAnswer
+    ensures { λ r. ⌜ r ≡ countedFields (outstandingAnswer (sizes w h d) orientation (now (state .entry))) ⌝ }
+{
+    let a = field::entry::outstanding(sizes_of(w, h, d), orientation as usize, state);
+    counted(a)
+}
+
+// The listener hears a word from a direction. Refusals: 1, 2, 5, 6, 7, 8.
+#[no_mangle]
+pub extern "C" fn dk_hear(
+    w: u32,
+    h: u32,
+    d: u32,
+    orientation: u32,
+    listener: u32,
+    direction: u32,
+    word: u32,
+    state: &mut [u8],
+) -> DoneAnswer
+    ensures { λ r. ⌜ r ≡ doneFields (hearAnswer (sizes w h d) orientation listener direction word (now (state .entry))) ⌝ }
+    ensures { λ _. ⌜ now (state .exit) ≡ hearOut (sizes w h d) orientation listener direction word (now (state .entry)) ⌝ }
+{
+    let a = field::entry::hear(
+        sizes_of(w, h, d),
+        orientation as usize,
+        listener as usize,
+        direction as usize,
+        word as usize,
+        state,
+    );
+    done(a)
 }
 
 // Reads a map file. Refusals: 11, 1, 11, 3, 4.

@@ -160,7 +160,7 @@ module _ (S : Sizes) (notes cells : List ℕ) (r : InRange S) (whole : length ce
 
 -- ---- the two together
 
-read-as : (a : Answer) (Z S : Sizes) → (mapRead a Z ≡ Read S) ↔ ((a ≡ Done) × (Z ≡ S))
+pub read-as : (a : Answer) (Z S : Sizes) → (mapRead a Z ≡ Read S) ↔ ((a ≡ Done) × (Z ≡ S))
 read-as Done Z S = (λ e. (refl, (cc)), λ q. ap Read (q .1))
 read-as (Refused r) Z S = (
   λ e. let z : _≡_ {A = ℕ} 0 1 = cc in absurd (omega arith),

@@ -1,5 +1,5 @@
 -- Which refusal stands, check by check, and what the checks before it have granted. Assumes nothing.
-use mathlib.Core.Path.{_≡_, ap, _∙_}
+use mathlib.Core.Path.{_≡_, sym, ap, _∙_}
 use mathlib.Core.Bool.{true, false}
 use mathlib.Core.List.{List, _++_}
 use Prim.Native.Nat.{ℕ, _+_, _-_, _≤_, _<_}
@@ -7,6 +7,7 @@ use native.Mathlib.Omega.{arith}
 use borrow.Author.Tests.{lt-leb, le-leb, eq-eqb, ne-eqb}
 use lib.Dec.{eqb}
 use lib.ListN.{length, take, drop, length-append, length-take, length-drop}
+use lib.Seq.{take-at}
 use Rattle.mesh.specs.Mesh.{inRange, InRange, nodes}
 use Rattle.mesh.specs.Answers.{checkMap}
 use Rattle.mesh.specs.declared.Sizes.{Sizes}
@@ -115,6 +116,18 @@ module _ (file : List ℕ) where
   pub is-read : (room : ℕ) → readCheck file room ≡ Done → readAnswer file room ≡ Read (sizesIn file)
   unfolding readAnswer
   is-read room e = rw e
+
+  -- what is read is in order, and stands in front
+  pub read-ordered : (room : ℕ) → readCheck file room ≡ Done → checkMap (sizesIn file) (cellsIn file) ≡ Done
+  unfolding readCheck
+  read-ordered room e = let ((t, r), c) = simp (both-done, unless-done, T-le) at e in sym (read-cells room t r) ∙ e
+
+  pub read-front : (out : List ℕ) → readCheck file (length out) ≡ Done → take (nodes (sizesIn file)) (readOut file out) ≡ cellsIn file
+  unfolding readWritten readCheck
+  read-front out e =
+      let (t, r) = simp both-done at e in
+      let n = nodes (sizesIn file) in
+      rw e (take-at (cellsIn file) (drop n out) n (cells-size (trailer-says (t .0) .2)))
 
   -- what is stored is what the answer says
   pub read-stored : (out : List ℕ) → readCheck file (length out) ≡ Done → stored out 0 (cellsIn file) ≡ readOut file out

@@ -1,13 +1,16 @@
--- A loop that stores v i at f i, for i from 0: one store more, and what was right stays right. Assumes nothing.
-use mathlib.Core.Path.{_≡_, refl, ap, _∙_}
+-- A loop that stores v i at f i, for i from 0: one store more, and what was right stays right; and what is written at the front of a list.
+-- Assumes nothing.
+use mathlib.Core.Path.{_≡_, refl, sym, ap, _∙_}
 use mathlib.Core.Logic.{inl, inr}
-use mathlib.Core.List.{List}
-use Prim.Native.Nat.{ℕ, _+_, _<_}
+use mathlib.Core.Bool.{Bool, true, false}
+use mathlib.Core.List.{List, _++_}
+use Prim.Native.Nat.{ℕ, _+_, _-_, _<_, _≤_}
 use native.Mathlib.Omega.{arith}
 use borrow.Author.Count.{below-more}
-use lib.ListN.{length, getD, set, length-set}
-use lib.Seq.{getD-set-same, getD-set-other}
-use lib.Dec.{eqb}
+use borrow.Author.Tests.{ltb-true, ltb-false}
+use lib.ListN.{length, getD, set, drop, length-set, length-append, length-drop, List·getD-append}
+use lib.Seq.{getD-set-same, getD-set-other, getD-append-add, getD-drop, ext-getD}
+use lib.Dec.{eqb, ltb}
 use Rattle.mesh.specs.Tools.{any}
 use Rattle.mesh.specs.Fill.{Filled}
 use Rattle.mesh.proofs.Tests.{T-any, T-eq, T-no, tried}
@@ -35,3 +38,22 @@ fill-safe f v old new n F k x right e = elim (tried (any n λ i. eqb k (f i))) [
       ap (λ (j : ℕ). getD new j 0) q ∙ F .at i l ∙ right i l q
   | inr t ↦ F .kept k (λ i l q. T-no (any n λ i. eqb k (f i)) .0 t (T-any n (λ i. eqb k (f i)) .1 (i, l, T-eq k (f i) .1 q))) ∙ e
 ]
+
+-- "Longer outputs keep their remaining places": l at the front, and after it what was there
+pub front : (l old new : List ℕ) (n : ℕ) → length l ≡ n → n ≤ length old → length new ≡ length old
+    → ((k : ℕ) → k < n → getD new k 0 ≡ getD l k 0) → ((k : ℕ) → n ≤ k → getD new k 0 ≡ getD old k 0) → new ≡ l ++ drop n old
+front l old new n e room size written kept = ext-getD 0 new (l ++ drop n old)
+    (omega (arith, length-append l (drop n old), length-drop n old))
+    (λ k h. split k (ltb k n) refl)
+  where
+    split : (k : ℕ) (t : Bool) → ltb k n ≡ t → getD new k 0 ≡ getD (l ++ drop n old) k 0
+    split k true h = let i = ltb-true k n h in written k i ∙ (rw (List·getD-append l (drop n old) 0 k (omega arith)))
+    split k false h =
+        let i = ltb-false k n h in
+        let q : length l + (k - n) ≡ k = omega arith in
+        let r : n + (k - n) ≡ k = omega arith in
+        kept k i
+        ∙ sym (ap (λ (j : ℕ). getD old j 0) r)
+        ∙ sym (getD-drop n old (k - n) 0)
+        ∙ sym (getD-append-add l (drop n old) (k - n) 0)
+        ∙ ap (λ (j : ℕ). getD (l ++ drop n old) j 0) q

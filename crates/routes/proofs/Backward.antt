@@ -67,13 +67,13 @@ module _ (m : Map) (s e : Place) (s-in : Inside (m .sizes) s) (e-in : Inside (m 
   abbrev back : Axis → Bool
   back a = not (runOn g a .down)
 
-  node-in : (t : Place) → Within g t → Inside (m .sizes) (reach g t)
+  pub node-in : (t : Place) → Within g t → Inside (m .sizes) (reach g t)
   node-in t w = reach-in (m .sizes) g t (held (m .sizes) e s e-in s-in) w
 
   wanted-back : (t : Place) → Within g t → (a : Axis) → preferred (reach g t) e (along a (back a)) ≡ ltb 0 (on t a)
   wanted-back t w a = preferred-along (reach g t) e a (back a) ∙ lies-back e s t w a
 
-  step-back : (t : Place) → Within g t → (a : Axis) → 0 < on t a → next (m .sizes) (reach g t) (along a (back a)) ≡ At (reach g (put a t (on t a - 1)))
+  pub step-back : (t : Place) → Within g t → (a : Axis) → 0 < on t a → next (m .sizes) (reach g t) (along a (back a)) ≡ At (reach g (put a t (on t a - 1)))
   step-back t w a h =
       let p : T (preferred (reach g t) e (along a (back a))) = rw (wanted-back t w a) (lt→ltb 0 (on t a) h) in
       let (q, k) = preferred-next (m .sizes) (reach g t) e (node-in t w) e-in (along a (back a)) p in

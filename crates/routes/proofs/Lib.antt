@@ -7,6 +7,9 @@ pub mod Backward
 pub mod Forward
 pub mod Flags
 pub mod Ends
+pub mod Following
+pub mod Trails
+pub mod Routing
 pub mod Paths
 pub mod Walks
 pub mod Offered

@@ -111,7 +111,7 @@ lowest-is (suc n) t j h y = split (t 0) refl (lowest-is n λ k. t (suc k))
         let r = g k l z in
         record { passes = r .passes; small = omega arith; none = none (lowest n (λ k. t (suc k))) f (r .none) }
 
-least-same : (t : ℕ → Bool) (j k : ℕ) → ((i : ℕ) → i < j → T (t i) → ⊥) → T (t j) → ((i : ℕ) → i < k → T (t i) → ⊥) → T (t k) → j ≡ k
+pub least-same : (t : ℕ → Bool) (j k : ℕ) → ((i : ℕ) → i < j → T (t i) → ⊥) → T (t j) → ((i : ℕ) → i < k → T (t i) → ⊥) → T (t k) → j ≡ k
 least-same t j k nj tj nk tk = split (ltb j k) refl (ltb k j) refl
   where
     split : (b : Bool) → ltb j k ≡ b → (c : Bool) → ltb k j ≡ c → j ≡ k
@@ -130,7 +130,7 @@ module _ (m : Map) (e : Place) where
       hop j h (rw f at y) (lowest-leads L (next-in (m .sizes) p r i j h))
 
   -- where a path leads on from a node that is not the end, one begins in some direction
-  offers-some : (p : Place) → Inside (m .sizes) p → (p ≡ e → ⊥) → T (leads m e p e) → (j : ℕ) × (j < 6) × T (offers m e p j)
+  pub offers-some : (p : Place) → Inside (m .sizes) p → (p ≡ e → ⊥) → T (leads m e p e) → (j : ℕ) × (j < 6) × T (offers m e p j)
   offers-some p i ne t = split (leads-iff m e p e i .0 t .1)
     where
       split : {l : List ℕ} → Leads m e p e l → (j : ℕ) × (j < 6) × T (offers m e p j)

@@ -1,7 +1,8 @@
 pub mod Differences
 pub mod Paths
 pub mod Offered
+pub mod Entries
 pub mod Box
 pub mod Sweep
-pub mod Entries
+pub mod Table
 pub mod Computed

@@ -8,7 +8,7 @@ use mesh::Sizes;
 ghost use mathlib.Core.Path.{_≡_};
 ghost use Prim.Native.Nat.{_≤_, _<_};
 ghost use Rattle.mesh.specs.Mesh.{InRange, Inside, place, nodes, number};
-ghost use Rattle.routes.specs.Box.{largest, run, between, gone, reach, OnAxis, Held, Within};
+ghost use Rattle.routes.specs.Box.{largest, run, between, gone, reach, far, OnAxis, Held, Within};
 
 // One axis, from one coordinate to another.
 pub fn run(from: usize, to: usize) -> Run
@@ -49,6 +49,17 @@ impl Run {
 }
 
 impl Between {
+    // The opposite corner, in steps.
+    pub fn far(self) -> Place
+        ensures { λ r. ⌜ r ≡ far self ⌝ }
+    {
+        Place {
+            x: self.x.steps,
+            y: self.y.steps,
+            z: self.z.steps,
+        }
+    }
+
     // The number of the node after a, b and c steps.
     pub fn node(self, s: Sizes, a: usize, b: usize, c: usize) -> usize
         requires { ⌜ InRange s × Held s self × Within self (place a b c) ⌝ }

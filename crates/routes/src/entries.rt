@@ -1,14 +1,17 @@
 // The public calls on routes. Each takes every input.
 use crate::Verdict;
+use crate::follow::write_route;
 use crate::offers::offered;
 use crate::signed::hops;
 use mesh::Answer;
+use mesh::Numbered;
 use mesh::Refusal;
 use mesh::Sizes;
 use mesh::cells::check_map;
 use mesh::cells::may_end;
 ghost use mathlib.Core.Path.{_≡_};
-ghost use Rattle.routes.specs.Entries.{checkEnds, verdictAnswer};
+ghost use lib.ListN.{length};
+ghost use Rattle.routes.specs.Entries.{checkEnds, verdictAnswer, routeAnswer, routeOut};
 
 // Refusals 1, 2, 4, 5 and 9.
 fn check_ends(s: Sizes, cells: &[u8], start: usize, end: usize) -> Answer
@@ -51,4 +54,16 @@ pub fn verdict(s: Sizes, cells: &[u8], start: usize, end: usize) -> Verdict
         }
     }
     Verdict::Granted(h, o)
+}
+
+// The nodes of the route at the front of out, and how many they are: refusals 1, 2, 4, 5, 9, 10 and 3.
+pub fn route(s: Sizes, cells: &[u8], start: usize, end: usize, out: &mut [u16]) -> Numbered
+    ensures { λ r. ⌜ r ≡ routeAnswer s (now (cells .entry)) start end (length (now (out .entry))) ⌝ }
+    ensures { λ _. ⌜ now (out .exit) ≡ routeOut s (now (cells .entry)) start end (now (out .entry)) ⌝ }
+{
+    let a = check_ends(s, cells, start, end);
+    if let Answer::Refused(r) = a {
+        return Numbered::NotNumbered(r);
+    }
+    write_route(s, cells, s.place(start), s.place(end), out)
 }

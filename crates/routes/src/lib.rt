@@ -3,6 +3,7 @@ use mesh::Refusal;
 
 pub mod boxes;
 pub mod entries;
+pub mod follow;
 pub mod offers;
 pub mod signed;
 pub mod sweep;

@@ -11,31 +11,31 @@ use Rattle.components.proofs.flood.flood.Statement.{statement}
 use Rattle.components.proofs.flood.flood.Tie as tie
 
 abbrev Inv-loop : tie.InvT-loop
-Inv-loop grid₀ queue₀ start number tail₀ head₀ grid queue tail head = Drained grid₀ queue₀ start number tail₀ grid queue tail head
+Inv-loop grid₀ queue₀ steps start number tail₀ head₀ grid queue tail head = Drained grid₀ queue₀ start number tail₀ grid queue tail head
 
 abbrev μ-loop : tie.MeasureT-loop
-μ-loop grid₀ queue₀ start number tail₀ head₀ grid queue tail head = gridSize - head
+μ-loop grid₀ queue₀ steps start number tail₀ head₀ grid queue tail head = gridSize - head
 
 visit-requires : tie.Need-visit-requires Inv-loop μ-loop
 visit-requires c κs =
-    let p = c .before .before .before .before .pre in
+    let p = c .before .before .before .before .before .pre in
     (p .0, omega (arith, spot-le _ (p .3 _ (p .2))), λ _. omega arith)
 
 -- after the first place
 begun : (c : tie.After-visit Inv-loop μ-loop)
-    → Part (c .before .before .before .before .before .args .grid .now) (c .before .before .before .before .before .args .start)
-    (c .before .before .before .before .before .args .number) (c .visit .last .0) (c .visit .last .1 .0) (c .visit .result)
-    × (howOften (c .visit .last .0) (c .before .before .before .before .before .args .number) ≡ c .visit .result)
-    × (getD (c .visit .last .0) (c .before .before .before .before .before .args .start) 0 ≡ unseen → ⊥)
+    → Part (c .before .before .before .before .before .before .args .grid .now) (c .before .before .before .before .before .before .args .start)
+    (c .before .before .before .before .before .before .args .number) (c .visit .last .0) (c .visit .last .1 .0) (c .visit .result)
+    × (howOften (c .visit .last .0) (c .before .before .before .before .before .before .args .number) ≡ c .visit .result)
+    × (getD (c .visit .last .0) (c .before .before .before .before .before .before .args .start) 0 ≡ unseen → ⊥)
 begun c =
-    let a = c .before .before .before .before .before .args in
-    let p = c .before .before .before .before .before .pre in
+    let a = c .before .before .before .before .before .before .args in
+    let p = c .before .before .before .before .before .before .pre in
     begins (a .grid .now) (a .number) (p .4) (p .0) (p .1) (omega (arith, spot-le (a .start) (p .3 (a .start) (p .2)))) (p .2) (c .visit .ensures)
 
 loop-holds : tie.Need-loop-holds Inv-loop μ-loop
 loop-holds c =
     let v = c .before .before .before .before in
-    let p = v .before .before .before .before .before .pre in
+    let p = v .before .before .before .before .before .before .pre in
     record {
       sized = record { grid = v .visit .kept .0 ∙ p .0 .grid; queue = v .visit .kept .1 .0 ∙ p .0 .queue };
       grows = λ g w. w;
@@ -49,12 +49,12 @@ loop-holds c =
 within : (c : tie.At-loop Inv-loop μ-loop) → c .loop .head < c .loop .tail → c .loop .head < gridSize
 within c h =
     let d = c .loop .inv in
-    omega (arith, d .counted, d .sized .grid, often-le (c .loop .grid) (c .before .before .before .before .before .before .before .before .before .before .args .number))
+    omega (arith, d .counted, d .sized .grid, often-le (c .loop .grid) (c .before .before .before .before .before .before .before .before .before .before .before .args .number))
 
 -- and it is a spot
 a-spot : (c : tie.At-loop Inv-loop μ-loop) → c .loop .head < c .loop .tail → Spot (getD (c .loop .queue) (c .loop .head) 0)
 a-spot c h =
-    let s = c .before .before .before .before .before .before .before .before .before .before in
+    let s = c .before .before .before .before .before .before .before .before .before .before .before in
     s .pre .3 (getD (c .loop .queue) (c .loop .head) 0) (c .loop .inv .grows (s .args .grid .now) (begun (c .before .before .before .before .before) .0) .each (c .loop .head) h .0)
 
 mul-from : tie.Need-mul-from Inv-loop μ-loop
@@ -70,7 +70,8 @@ spread-requires : tie.Need-spread-requires Inv-loop μ-loop
 spread-requires c κs =
     let l = c .before .before .before .before in
     let d = l .loop .inv in
-    (d .sized, a-spot l (c .before .before .before .loop-test .taken), l .before .before .before .before .before .before .before .before .before .before .pre .1, d .counted)
+    let p = l .before .before .before .before .before .before .before .before .before .before .before .pre in
+    (d .sized, a-spot l (c .before .before .before .loop-test .taken), p .1, d .counted, p .5)
 
 add-head : tie.Need-add-head Inv-loop μ-loop
 add-head c =
@@ -91,15 +92,15 @@ loop-again c =
     (c .before .before .before .before .before .before .before .before .loop-test .taken) (v .ensures)
 
 same-length : tie.Need-same-length Inv-loop μ-loop
-same-length c = omega (arith, c .before .before .before .before .before .before .before .before .before .before .before .pre .0 .grid, c .before .loop .inv .sized .grid)
+same-length c = omega (arith, c .before .before .before .before .before .before .before .before .before .before .before .before .pre .0 .grid, c .before .loop .inv .sized .grid)
 
 same-length-2 : tie.Need-same-length-2 Inv-loop μ-loop
-same-length-2 c = omega (arith, c .before .before .before .before .before .before .before .before .before .before .before .pre .0 .queue, c .before .loop .inv .sized .queue)
+same-length-2 c = omega (arith, c .before .before .before .before .before .before .before .before .before .before .before .before .pre .0 .queue, c .before .loop .inv .sized .queue)
 
 returns : tie.Need-returns Inv-loop μ-loop
 returns c =
     let l = c .before in
-    let s = l .before .before .before .before .before .before .before .before .before .before in
+    let s = l .before .before .before .before .before .before .before .before .before .before .before in
     drained-all (l .loop .inv) (s .args .grid .now) (begun (l .before .before .before .before .before) .0) (s .pre .2) (c .loop-test .left)
 
 pub flood-spec : {M : Type 1} → statement M

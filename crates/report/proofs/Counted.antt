@@ -1,0 +1,77 @@
+-- What is counted among cells and mark bytes is what the report means, and the calls on a map that is in order are granted.
+-- Assumes nothing.
+use mathlib.Core.Path.{_≡_, sym, ap, _∙_}
+use mathlib.Core.List.{List}
+use Prim.Native.Nat.{ℕ, _≤_, _<_}
+use native.Mathlib.Omega.{arith}
+use borrow.Author.Tests.{le-leb}
+use lib.ListN.{length, getD, take, drop}
+use lib.Seq.{take-at}
+use Rattle.mesh.specs.Tools.{count}
+use Rattle.mesh.specs.Mesh.{nodes, placeOf}
+use Rattle.mesh.specs.Cells.{Map, mapOf, faultyCell, faulty}
+use Rattle.mesh.specs.Marks.{Kind, useless, cantReach, has, holds, markAt, marksOf}
+use Rattle.mesh.specs.Answers.{checkMap}
+use Rattle.mesh.specs.declared.Sizes.{Sizes}
+use Rattle.mesh.specs.declared.Answer.the-variants.{Done}
+use Rattle.mesh.proofs.Numbers.{nodes-le, number-of, place-in}
+use Rattle.mesh.proofs.Bytes.{mark-has}
+use Rattle.mesh.proofs.Marks.{marks-length, marks-at}
+use Rattle.mesh.proofs.Answers.{map-granted}
+use Rattle.marks.specs.Entry.{marksAnswer, marksWritten, marksOut}
+use Rattle.components.specs.Components.{howMany}
+use Rattle.components.specs.Entry.{componentsCheck}
+use Rattle.components.proofs.Numbers.{how-many-le}
+use Rattle.report.specs.Counts.{faultyCount, markedCount, faultyAmong, withBit}
+use Rattle.report.proofs.Tally.{count-same}
+
+-- the mark byte of a node in the list of them
+marks-byte : (m : Map) (o k : ℕ) → k < nodes (m .sizes) → getD (marksOf m o) k 0 ≡ markAt m o (placeOf (m .sizes) k)
+marks-byte m o k h =
+    ap (λ (i : ℕ). getD (marksOf m o) i 0) (sym (number-of (m .sizes) k))
+    ∙ marks-at m o (placeOf (m .sizes) k) (place-in (m .sizes) k h)
+
+-- the nodes that have a mark, by their bytes
+has-counted : (m : Map) (o : ℕ) (a : Kind) → count (length (marksOf m o)) (λ k. has (getD (marksOf m o) k 0) a) ≡ markedCount m o a
+unfolding markedCount
+has-counted m o a =
+    ap (λ (n : ℕ). count n λ k. has (getD (marksOf m o) k 0) a) (marks-length m o)
+    ∙ count-same (nodes (m .sizes)) (λ k. has (getD (marksOf m o) k 0) a) (λ k. holds m o (placeOf (m .sizes) k) a) λ k h.
+    ap (λ (b : ℕ). has b a) (marks-byte m o k h) ∙ mark-has m o (placeOf (m .sizes) k) a (place-in (m .sizes) k h)
+
+pub useless-counted : (m : Map) (o : ℕ) → withBit (marksOf m o) 2 ≡ markedCount m o useless
+unfolding has
+useless-counted m o = has-counted m o useless
+
+pub cant-reach-counted : (m : Map) (o : ℕ) → withBit (marksOf m o) 4 ≡ markedCount m o cantReach
+unfolding has
+cant-reach-counted m o = has-counted m o cantReach
+
+module _ (S : Sizes) (cells : List ℕ) (ordered : checkMap S cells ≡ Done) where
+  pub faulty-counted : faultyAmong cells ≡ faultyCount (mapOf S cells)
+  unfolding faultyCount
+  faulty-counted =
+      let c = map-granted S cells ordered in
+      ap (λ (n : ℕ). count n λ k. faultyCell (getD cells k 0)) (c .whole)
+      ∙ count-same (nodes S) (λ k. faultyCell (getD cells k 0)) (λ k. faulty (mapOf S cells) (placeOf S k)) λ k h.
+      ap (λ (i : ℕ). faultyCell (getD cells i 0)) (sym (number-of S k))
+
+  few : nodes S ≤ 4096
+  few = nodes-le S (map-granted S cells ordered .sized)
+
+  pub marks-granted : (o : ℕ) → o ≤ 7 → marksAnswer S cells o 4096 ≡ Done
+  unfolding marksAnswer
+  marks-granted o h = rw (ordered, le-leb o 7 h, le-leb (nodes S) 4096 few)
+
+  -- the bytes in front of what `marks` leaves
+  pub marks-front : (o : ℕ) → o ≤ 7 → (old : List ℕ) → length old ≡ 4096 → take (nodes S) (marksOut S cells o old) ≡ marksOf (mapOf S cells) o
+  unfolding marksWritten
+  marks-front o h old e =
+      rw (e, marks-granted o h) (take-at (marksOf (mapOf S cells) o) (drop (nodes S) old) (nodes S) (marks-length (mapOf S cells) o))
+
+  pub components-granted : (o : ℕ) → o ≤ 7 → componentsCheck S cells o 4096 4096 ≡ Done
+  unfolding componentsCheck
+  components-granted o h =
+      let marks = marksOf (mapOf S cells) o in
+      let fits : howMany S marks ≤ 4096 = omega (arith, how-many-le S marks, marks-length (mapOf S cells) o, few) in
+      rw (ordered, le-leb o 7 h, le-leb (nodes S) 4096 few, le-leb (howMany S marks) 4096 fits)

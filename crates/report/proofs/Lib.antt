@@ -1,0 +1,4 @@
+pub mod Tally
+pub mod Counted
+pub mod Sample
+pub mod Printed

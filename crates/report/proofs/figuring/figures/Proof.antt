@@ -1,0 +1,95 @@
+-- `report::figuring::figures` meets its contract: the bytes in front are the marks of the map. Assumes nothing.
+use mathlib.Core.Path.{_≡_, sym, ap, _∙_}
+use mathlib.Core.List.{List}
+use Prim.Native.Nat.{ℕ}
+use borrow.Author.Needs.{needs}
+use denote.Ref.{now}
+use lib.ListN.{length, take}
+use Rattle.mesh.specs.Mesh.{nodes}
+use Rattle.mesh.specs.Cells.{mapOf}
+use Rattle.mesh.specs.Marks.{marksOf}
+use Rattle.mesh.proofs.Answers.{map-granted}
+use Rattle.mesh.proofs.Marks.{marks-length}
+use Rattle.report.specs.Counts.{withBit}
+use Rattle.report.proofs.Counted.{marks-front, useless-counted, cant-reach-counted}
+use Rattle.report.proofs.figuring.figures.Statement.{statement}
+use Rattle.report.proofs.figuring.figures.Tie as tie
+
+-- the bytes in front, when their count is known
+in-front : (c : tie.After-nodes) →
+    let a = c .before .before .before .before .before .before .args in
+    take (c .nodes .result) (c .before .before .marks .last .1 .1 .1 .0) ≡ marksOf (mapOf (a .s) (now (a .cells))) (a .o)
+in-front c =
+    let made = c .before .before .before .before in
+    let s = made .before .before in
+    let cells = now (s .args .cells) in
+    ap (λ (n : ℕ). take n (c .before .before .marks .last .1 .1 .1 .0)) (c .nodes .ensures .0)
+    ∙ ap (take (nodes (s .args .s))) (c .before .before .marks .ensures .1)
+    ∙ marks-front (s .args .s) cells (s .pre .0) (s .args .o) (s .pre .1) (made .blank-cells .result) (made .blank-cells .ensures)
+
+as-many : (c : tie.After-nodes) → c .nodes .result ≡ length (take (c .nodes .result) (c .before .before .marks .last .1 .1 .1 .0))
+as-many c =
+    let a = c .before .before .before .before .before .before .args in
+    c .nodes .ensures .0 ∙ sym (ap length (in-front c) ∙ marks-length (mapOf (a .s) (now (a .cells))) (a .o))
+
+blank-cells-requires : tie.Need-blank-cells-requires
+blank-cells-requires c κs = search needs
+
+slice-aggregate-marks : tie.Need-slice-aggregate-marks
+slice-aggregate-marks c = search needs
+
+marks-requires : tie.Need-marks-requires
+marks-requires c κs = search needs
+
+nodes-requires : tie.Need-nodes-requires
+nodes-requires c κs = let s = c .before .before .before .before .before in map-granted (s .args .s) (now (s .args .cells)) (s .pre .0) .sized
+
+array-share-prefix-marked : tie.Need-array-share-prefix-marked
+array-share-prefix-marked c = search needs
+
+slice-aggregate-count-marked : tie.Need-slice-aggregate-count-marked
+slice-aggregate-count-marked c = as-many (c .before)
+
+count-marked-requires : tie.Need-count-marked-requires
+count-marked-requires c κs = search needs
+
+array-share-prefix-marked-2 : tie.Need-array-share-prefix-marked-2
+array-share-prefix-marked-2 c = search needs
+
+slice-aggregate-count-marked-2 : tie.Need-slice-aggregate-count-marked-2
+slice-aggregate-count-marked-2 c = as-many (c .before .before .before)
+
+count-marked-requires-2 : tie.Need-count-marked-requires-2
+count-marked-requires-2 c κs = search needs
+
+count-components-requires : tie.Need-count-components-requires
+count-components-requires c κs = search needs
+
+returns : tie.Need-returns
+returns c =
+    let first = c .before .before .before in
+    let n = first .before .before in
+    let a = n .before .before .before .before .before .before .args in
+    let m = mapOf (a .s) (now (a .cells)) in
+    rw (
+      first .count-marked .ensures ∙ ap (λ (l : List ℕ). withBit l 2) (in-front n) ∙ useless-counted m (a .o),
+      c .before .count-marked2 .ensures ∙ ap (λ (l : List ℕ). withBit l 4) (in-front n) ∙ cant-reach-counted m (a .o),
+      c .count-components .ensures,
+    )
+
+pub figures-spec : {M : Type 1} → statement M
+figures-spec =
+    tie.close
+    (tie.spec
+    blank-cells-requires
+    slice-aggregate-marks
+    marks-requires
+    nodes-requires
+    array-share-prefix-marked
+    slice-aggregate-count-marked
+    count-marked-requires
+    array-share-prefix-marked-2
+    slice-aggregate-count-marked-2
+    count-marked-requires-2
+    count-components-requires
+    returns)

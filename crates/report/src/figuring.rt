@@ -1,0 +1,55 @@
+// The figures of a map that is in order.
+use crate::Figures;
+use crate::counting::count_marked;
+use components::entry::compute;
+use marks::entry::marks;
+use mesh::Sizes;
+ghost use mathlib.Core.Path.{_≡_};
+ghost use Prim.Native.Nat.{_≤_};
+ghost use lib.ListN.{length};
+ghost use Rattle.mesh.specs.Cells.{mapOf};
+ghost use Rattle.mesh.specs.Marks.{marksOf};
+ghost use Rattle.mesh.specs.Answers.{checkMap};
+ghost use Rattle.mesh.specs.declared.Answer.the-variants.{Done};
+ghost use Rattle.components.specs.Components.{howMany};
+ghost use Rattle.report.specs.Counts.{figuresOf};
+
+pub fn blank_cells() -> [u8; 4096]
+    ensures { λ r. ⌜ length r ≡ 4096 ⌝ }
+{
+    [0; 4096]
+}
+
+fn blank_table() -> [u16; 4096]
+    ensures { λ r. ⌜ length r ≡ 4096 ⌝ }
+{
+    [0; 4096]
+}
+
+// How many components there are.
+fn count_components(s: Sizes, cells: &[u8], o: usize) -> usize
+    requires { ⌜ (checkMap s (now cells) ≡ Done) × (o ≤ 7) ⌝ }
+    ensures { λ r. ⌜ r ≡ howMany s (marksOf (mapOf s (now (cells .entry))) o) ⌝ }
+{
+    let mut table = blank_table();
+    let found = compute(s, cells, o, &mut table, 4096);
+    found.count
+}
+
+// The figures of an orientation.
+pub fn figures(s: Sizes, cells: &[u8], o: usize) -> Figures
+    requires { ⌜ (checkMap s (now cells) ≡ Done) × (o ≤ 7) ⌝ }
+    ensures { λ r. ⌜ r ≡ figuresOf (mapOf s (now (cells .entry))) o ⌝ }
+{
+    let mut marked = blank_cells();
+    marks(s, cells, o, &mut marked);
+    let n = s.nodes();
+    let useless = count_marked(&marked[..n], 2);
+    let cannot_reach = count_marked(&marked[..n], 4);
+    let components = count_components(s, cells, o);
+    Figures {
+        useless,
+        cannot_reach,
+        components,
+    }
+}

@@ -1,0 +1,72 @@
+-- `routes::entries::route` meets its contract: the ends are checked, and then the route is written. Assumes nothing.
+use mathlib.Core.Path.{_≡_, sym, _∙_}
+use borrow.Author.Needs.{needs}
+use denote.Ref.{now}
+use Rattle.mesh.specs.Mesh.{placeOf}
+use Rattle.mesh.specs.declared.Answer.the-variants.{Done}
+use Rattle.routes.specs.Entries.{checkEnds}
+use Rattle.routes.specs.Sweep.{Ends}
+use Rattle.routes.proofs.Ends.{ends-granted}
+use Rattle.routes.proofs.Routing.{route-refused, route-past}
+use Rattle.routes.proofs.entries.route.Statement.{statement}
+use Rattle.routes.proofs.entries.route.Tie as tie
+
+-- past the checks
+good : (c : tie.After-enum-told) →
+    let a = c .before .before .before .before .before .args in
+    checkEnds (a .s) (now (a .cells)) (a .start) (a .end) ≡ Done
+good c = sym (c .before .before .check-ends .ensures) ∙ c .enum-told .given .1
+
+ends : (c : tie.After-enum-told) →
+    let a = c .before .before .before .before .before .args in
+    Ends (a .s) (now (a .cells)) (placeOf (a .s) (a .start)) (placeOf (a .s) (a .end))
+ends c = let a = c .before .before .before .before .before .args in ends-granted (a .s) (now (a .cells)) (a .start) (a .end) (good c)
+
+check-ends-requires : tie.Need-check-ends-requires
+check-ends-requires c κs = search needs
+
+enum-known-a : tie.Need-enum-known-a
+enum-known-a c = search needs
+
+returns : tie.Need-returns
+returns c =
+    let a = c .before .before .before .before .before .before .args in
+    route-refused (a .s) (now (a .cells)) (a .start) (a .end) (now (a .out)) (c .before .a .given .0 .0)
+    (sym (c .before .before .before .check-ends .ensures) ∙ c .before .a .given .1)
+
+enum-told : tie.Need-enum-told
+enum-told c = search needs
+
+place-requires : tie.Need-place-requires
+place-requires c κs = ends c .sized
+
+place-requires-2 : tie.Need-place-requires-2
+place-requires-2 c κs = ends (c .before) .sized
+
+write-route-requires : tie.Need-write-route-requires
+write-route-requires c κs = rw (c .before .before .place .ensures, c .before .place2 .ensures) (ends (c .before .before .before))
+
+same-length : tie.Need-same-length
+same-length c = search needs
+
+returns-2 : tie.Need-returns-2
+returns-2 c =
+    let w = c .before .before in
+    let k = w .before .before .before .before in
+    let a = k .before .before .before .before .before .args in
+    route-past (a .s) (now (a .cells)) (a .start) (a .end) (now (a .out)) (good k) (w .write-route .result) (w .write-route .last .1 .1 .1 .1 .0)
+    (rw (← w .before .before .before .place .ensures, ← w .before .before .place2 .ensures) (w .write-route .ensures))
+
+pub route-spec : {M : Type 1} → statement M
+route-spec =
+    tie.close
+    (tie.spec
+    check-ends-requires
+    enum-known-a
+    returns
+    enum-told
+    place-requires
+    place-requires-2
+    write-route-requires
+    same-length
+    returns-2)

@@ -1,0 +1,55 @@
+-- `routes::follow::step_nearer` meets its contract: where a way is seen, a step is left. Assumes nothing.
+use mathlib.Core.Path.{_≡_, refl, sym, ap, _∙_}
+use Prim.Native.Nat.{_<_}
+use native.Mathlib.Omega.{arith}
+use borrow.Author.Needs.{needs}
+use borrow.Author.Tests.{eq-eqb, ne-eqb}
+use denote.Ref.{now}
+use Rattle.routes.specs.Table.{slot, waysIn, towards}
+use Rattle.routes.proofs.Following.{entered-left}
+use Rattle.routes.specs.declared.Ways.{Ways}
+use Rattle.routes.proofs.follow.step_nearer.Statement.{statement}
+use Rattle.routes.proofs.follow.step_nearer.Tie as tie
+
+told : (c : tie.After-ways-from) → let a = c .before .before .args in towards (c .ways-from .result) (a .t) ≡ towards (waysIn (now (a .table)) (a .t)) (a .t)
+told c = let a = c .before .before .args in ap (λ (w : Ways). towards w (a .t)) (c .ways-from .ensures)
+
+ways-from-requires : tie.Need-ways-from-requires
+ways-from-requires c κs = search needs
+
+sub-t5 : tie.Need-sub-t5
+sub-t5 c =
+    let w = c .before .before .before in
+    let a = w .before .before .args in
+    entered-left (now (a .table)) (slot (a .t)) 1 (a .t .x) (sym (ap (λ (w : Ways). w .x) (w .ways-from .ensures)) ∙ c .before .if1 .taken)
+
+returns : tie.Need-returns
+returns c = (rw (eq-eqb _ _ (c .before .if1 .taken))) ∙ told (c .before .before .before)
+
+sub-t6 : tie.Need-sub-t6
+sub-t6 c =
+    let w = c .before .before .before .before .before in
+    let a = w .before .before .args in
+    entered-left (now (a .table)) (slot (a .t)) 16 (a .t .y) (sym (ap (λ (w : Ways). w .y) (w .ways-from .ensures)) ∙ c .before .if2 .taken)
+
+returns-2 : tie.Need-returns-2
+returns-2 c = (rw (ne-eqb _ _ (c .before .before .before .if1 .left), eq-eqb _ _ (c .before .if2 .taken))) ∙ told (c .before .before .before .before .before)
+
+sub-t7 : tie.Need-sub-t7
+sub-t7 c =
+    let w = c .before .before .before .before .before .before .before in
+    let a = w .before .before .args in
+    entered-left (now (a .table)) (slot (a .t)) 256 (a .t .z) (sym (ap (λ (w : Ways). w .z) (w .ways-from .ensures)) ∙ c .before .if3 .taken)
+
+returns-3 : tie.Need-returns-3
+returns-3 c =
+    (rw (ne-eqb _ _ (c .before .before .before .before .before .if1 .left), ne-eqb _ _ (c .before .before .before .if2 .left), eq-eqb _ _ (c .before .if3 .taken)))
+    ∙ told (c .before .before .before .before .before .before .before)
+
+returns-4 : tie.Need-returns-4
+returns-4 c =
+    (rw (ne-eqb _ _ (c .before .before .before .before .if1 .left), ne-eqb _ _ (c .before .before .if2 .left), ne-eqb _ _ (c .if3 .left)))
+    ∙ told (c .before .before .before .before .before .before)
+
+pub step-nearer-spec : {M : Type 1} → statement M
+step-nearer-spec = tie.close (tie.spec ways-from-requires sub-t5 returns sub-t6 returns-2 sub-t7 returns-3 returns-4)

@@ -1,0 +1,39 @@
+-- Words said one after the other are said together. Assumes nothing.
+use mathlib.Core.Path.{_≡_, sym, ap, _∙_, subst}
+use mathlib.Core.List.{List, [], _++_, append-nil}
+use Prim.Native.Nat.{ℕ, _+_, _≤_}
+use native.Mathlib.Nat.{add-zero}
+use native.Mathlib.Omega.{arith}
+use lib.ListN.{length, take, drop, length-append, take-append-drop}
+use Rattle.mapfile.specs.Stored.{stored}
+use Rattle.mapfile.proofs.Stored.{length-stored, stored-next}
+use Rattle.text.specs.Text.{Said}
+
+module _ {old : List ℕ} {at : ℕ} {word new : List ℕ} {next : ℕ} (fits : at + length word ≤ length old) (s : Said old at word new next) where
+  pub said-size : length new ≡ length old
+  said-size = ap length (s .bytes) ∙ length-stored old at word fits
+
+  pub said-next : {more last : List ℕ} {end : ℕ} → Said new next more last end → Said old at (word ++ more) last end
+  said-next {more} {last} {end} t =
+      record {
+        place = omega (arith, t .place, s .place, length-append word more);
+        bytes =
+            t .bytes
+            ∙ ap (λ (l : List ℕ). stored l next more) (s .bytes)
+            ∙ ap (λ (n : ℕ). stored (stored old at word) n more) (s .place)
+            ∙ stored-next old at word fits more;
+      }
+
+pub said-none : (old : List ℕ) (at : ℕ) → Said old at [] old at
+said-none old at =
+    record {
+      place = omega arith;
+      bytes =
+          sym (ap (λ (k : ℕ). take at old ++ [] ++ drop k old) (add-zero at)
+          ∙ ap (λ (l : List ℕ). l ++ drop at old) (append-nil (take at old))
+          ∙ take-append-drop at old);
+    }
+
+-- the same words, otherwise written
+pub said-as : {old : List ℕ} {at : ℕ} {word other new : List ℕ} {next : ℕ} → word ≡ other → Said old at word new next → Said old at other new next
+said-as {old} {at} {new = new} {next = next} e s = subst (λ (t : List ℕ). Said old at t new next) e s

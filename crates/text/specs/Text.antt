@@ -1,0 +1,28 @@
+-- Text as bytes: words, and numbers in decimal. Assumes nothing.
+use mathlib.Core.Bool.{cond}
+use mathlib.Core.List.{List, [], _∷_, _++_}
+use mathlib.Core.Path.{_≡_}
+use Prim.Native.Nat.{ℕ, zero, suc, _+_, _/_, _%_}
+use Prim.Native.Char.{code}
+use Prim.Native.String.{String, [] as none, _∷_ as _then_}
+use lib.Dec.{ltb}
+use lib.ListN.{length}
+use Rattle.mapfile.specs.Stored.{stored}
+
+-- the bytes of a word
+abbrev pub ascii : String → List ℕ
+ascii none = []
+ascii (c then s) = code c ∷ ascii s
+
+-- a number in decimal, without zeros in front: its last digit, after those of its tenth part. Twenty digits hold every number of 64 bits.
+unfoldable pub decimalWithin : ℕ → ℕ → List ℕ
+decimalWithin zero n = []
+decimalWithin (suc more) n = cond (ltb n 10) ((48 + n) ∷ []) (decimalWithin more (n / 10) ++ (48 + n % 10) ∷ [])
+
+abbrev pub decimal : ℕ → List ℕ
+decimal n = decimalWithin 20 n
+
+-- `text` has been stored from `at` on, and `next` is the place after it
+pub record Said (old : List ℕ) (at : ℕ) (text new : List ℕ) (next : ℕ) : Type 0 where
+  pub place : next ≡ at + length text
+  pub bytes : new ≡ stored old at text

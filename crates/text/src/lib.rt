@@ -1,0 +1,35 @@
+// Text into lent bytes: words, and numbers in decimal.
+use mapfile::storing::put;
+ghost use mathlib.Core.List.{_++_};
+ghost use Prim.Native.Nat.{_+_, _≤_};
+ghost use lib.ListN.{length};
+ghost use Rattle.text.specs.Text.{decimal, Said};
+
+// Stores a word from a place on; the place after it.
+pub fn say(word: &[u8], out: &mut [u8], at: usize) -> usize
+    requires { ⌜ at + length (now word) ≤ length (now out) ⌝ }
+    ensures { λ r. ⌜ Said (now (out .entry)) at (now (word .entry)) (now (out .exit)) r ⌝ }
+{
+    put(word, out, at);
+    at + word.len()
+}
+
+// Stores a number.
+pub fn say_number(n: usize, out: &mut [u8], at: usize) -> usize
+    requires { ⌜ at + 20 ≤ length (now out) ⌝ }
+    ensures { λ r. ⌜ Said (now (out .entry)) at (decimal n) (now (out .exit)) r ⌝ }
+{
+    let mut digits = [0u8; 20];
+    let k = io::decimal(n as u64, &mut digits);
+    say(&digits[..k], out, at)
+}
+
+// Stores a word and a number.
+pub fn say_both(word: &[u8], n: usize, out: &mut [u8], at: usize) -> usize
+    requires { ⌜ at + (length (now word) + 20) ≤ length (now out) ⌝ }
+    ensures { λ r. ⌜ Said (now (out .entry)) at (now (word .entry) ++ decimal n) (now (out .exit)) r
+        × (r ≤ at + (length (now (word .entry)) + 20)) ⌝ }
+{
+    let next = say(word, out, at);
+    say_number(n, out, next)
+}
