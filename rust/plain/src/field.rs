@@ -4,22 +4,28 @@ const FAULTY: u8 = 1;
 const ABSENT: u8 = 8;
 
 pub fn fresh(size: [u32; 3], orientation: u32, cells: &[u8], state: &mut [u8]) -> Result<(), Refused> {
-    let sizes = Sizes::checked(size)?;
-    if state.len() != 7 * sizes.nodes() {
-        return refused(2);
-    }
+    let sizes = check_state(size, state)?;
     check_map(size, cells)?;
     check_orientation(orientation)?;
     let rule = Rule::new(sizes, orientation);
-    for (node, (bytes, at)) in state.chunks_exact_mut(7).zip(places(sizes)).enumerate() {
-        if cells[node] == 1 {
-            bytes.copy_from_slice(&[FAULTY, 0, 0, 0, 0, 0, 0]);
-            continue;
+    let links = Links::new(sizes);
+    let mut node = 0;
+    for z in 0..sizes.d {
+        for y in 0..sizes.h {
+            for x in 0..sizes.w {
+                let bytes = &mut state[7 * node..7 * node + 7];
+                if cells[node] == 1 {
+                    bytes.copy_from_slice(&[FAULTY, 0, 0, 0, 0, 0, 0]);
+                } else {
+                    let there = links.there([x, y, z]);
+                    for j in 0..6 {
+                        bytes[1 + j] = if there[j] { cells[node.wrapping_add(links.step[j])] } else { ABSENT };
+                    }
+                    bytes[0] = rule.own(bytes);
+                }
+                node += 1;
+            }
         }
-        for (heard, next) in bytes[1..].iter_mut().zip(neighbours(sizes, node, at)) {
-            *heard = next.map_or(ABSENT, |next| cells[next]);
-        }
-        bytes[0] = rule.own(&bytes[1..]);
     }
     Ok(())
 }
@@ -27,21 +33,14 @@ pub fn fresh(size: [u32; 3], orientation: u32, cells: &[u8], state: &mut [u8]) -
 pub fn sound(size: [u32; 3], orientation: u32, state: &[u8]) -> Result<(), Refused> {
     let sizes = check_state(size, state)?;
     check_orientation(orientation)?;
-    check_sound(sizes, orientation, state)
+    scan(sizes, orientation, state)?;
+    Ok(())
 }
 
 pub fn outstanding(size: [u32; 3], orientation: u32, state: &[u8]) -> Result<usize, Refused> {
     let sizes = check_state(size, state)?;
     check_orientation(orientation)?;
-    check_sound(sizes, orientation, state)?;
-    let mut count = 0;
-    for (node, (bytes, at)) in state.chunks_exact(7).zip(places(sizes)).enumerate() {
-        if bytes[0] != FAULTY {
-            let news = |(heard, next): (&u8, Option<usize>)| next.map_or(false, |next| state[7 * next] != *heard);
-            count += bytes[1..].iter().zip(neighbours(sizes, node, at)).filter(|pair| news(*pair)).count();
-        }
-    }
-    Ok(count)
+    scan(sizes, orientation, state)
 }
 
 pub fn hear(size: [u32; 3], orientation: u32, listener: u32, direction: u32, word: u32, state: &mut [u8]) -> Result<(), Refused> {
@@ -51,18 +50,21 @@ pub fn hear(size: [u32; 3], orientation: u32, listener: u32, direction: u32, wor
     if node >= sizes.nodes() || direction > 5 || word & !6 != 0 {
         return refused(5);
     }
-    check_sound(sizes, orientation, state)?;
-    let speaker = match neighbours(sizes, node, sizes.place(node))[direction] {
-        Some(next) if state[7 * node] != FAULTY && state[7 * next] != FAULTY => next,
-        _ => return refused(7),
-    };
-    let word = word as u8;
-    if word & !state[7 * speaker] != 0 {
+    scan(sizes, orientation, state)?;
+    let links = Links::new(sizes);
+    if state[7 * node] == FAULTY || !links.there(sizes.place(node))[direction] {
+        return refused(7);
+    }
+    let speaker = state[7 * node.wrapping_add(links.step[direction])];
+    if speaker == FAULTY {
+        return refused(7);
+    }
+    if word as u8 & !speaker != 0 {
         return refused(8);
     }
     let bytes = &mut state[7 * node..7 * node + 7];
-    bytes[1 + direction] |= word;
-    bytes[0] = Rule::new(sizes, orientation).own(&bytes[1..]);
+    bytes[1 + direction] |= word as u8;
+    bytes[0] = Rule::new(sizes, orientation).own(bytes);
     Ok(())
 }
 
@@ -74,60 +76,80 @@ fn check_state(size: [u32; 3], state: &[u8]) -> Result<Sizes, Refused> {
     Ok(sizes)
 }
 
-fn check_sound(sizes: Sizes, orientation: u32, state: &[u8]) -> Result<(), Refused> {
+/// Refuses a state that is not sound, and counts the words outstanding in one that is.
+fn scan(sizes: Sizes, orientation: u32, state: &[u8]) -> Result<usize, Refused> {
     let rule = Rule::new(sizes, orientation);
-    let right = |node: usize, bytes: &[u8], at: [usize; 3]| {
-        if bytes[0] == FAULTY {
-            return bytes[1..] == [0; 6];
+    let links = Links::new(sizes);
+    let mut count = 0;
+    let mut node = 0;
+    for z in 0..sizes.d {
+        for y in 0..sizes.h {
+            for x in 0..sizes.w {
+                let bytes = &state[7 * node..7 * node + 7];
+                if bytes[0] == FAULTY {
+                    if bytes[1..] != [0; 6] {
+                        return refused(6);
+                    }
+                } else {
+                    let there = links.there([x, y, z]);
+                    for j in 0..6 {
+                        let heard = bytes[1 + j];
+                        let speaker = if there[j] { state[7 * node.wrapping_add(links.step[j])] } else { ABSENT };
+                        let right = match speaker {
+                            ABSENT | FAULTY => heard == speaker,
+                            own => heard & !(own & 6) == 0,
+                        };
+                        if !right {
+                            return refused(6);
+                        }
+                        count += usize::from(heard != speaker);
+                    }
+                    if bytes[0] != rule.own(bytes) {
+                        return refused(6);
+                    }
+                }
+                node += 1;
+            }
         }
-        let heard_right = |(&heard, next): (&u8, Option<usize>)| match next.map(|next| state[7 * next]) {
-            None => heard == ABSENT,
-            Some(FAULTY) => heard == FAULTY,
-            Some(own) => heard & !(own & 6) == 0,
-        };
-        bytes[1..].iter().zip(neighbours(sizes, node, at)).all(heard_right) && bytes[0] == rule.own(&bytes[1..])
-    };
-    let mut nodes = state.chunks_exact(7).zip(places(sizes)).enumerate();
-    if nodes.all(|(node, (bytes, at))| right(node, bytes, at)) {
-        Ok(())
-    } else {
-        refused(6)
     }
+    Ok(count)
 }
 
-/// The mark rule on the six heard bytes of a node.
+/// The mark rule on the seven bytes of a node.
 struct Rule {
     flat: bool,
     ahead: [usize; 3],
+    behind: [usize; 3],
 }
 
 impl Rule {
     fn new(sizes: Sizes, orientation: u32) -> Rule {
-        Rule { flat: sizes.d == 1, ahead: [0, 1, 2].map(|axis| 2 * axis + (orientation as usize >> axis & 1)) }
+        let down = [0, 1, 2].map(|axis| orientation as usize >> axis & 1);
+        let heard = |flip: usize| [0, 1, 2].map(|axis| 1 + 2 * axis + (down[axis] ^ flip));
+        Rule { flat: sizes.d == 1, ahead: heard(0), behind: heard(1) }
     }
 
-    fn own(&self, heard: &[u8]) -> u8 {
-        let blocked = |way: usize, mark: u8| heard[way] & (1 | mark) != 0;
-        let [x, y, z] = self.ahead;
-        let all = |flip: usize, mark: u8| blocked(x ^ flip, mark) && blocked(y ^ flip, mark) && (self.flat || blocked(z ^ flip, mark));
-        u8::from(all(0, 2)) * 2 + u8::from(all(1, 4)) * 4
+    fn own(&self, bytes: &[u8]) -> u8 {
+        let all =
+            |[x, y, z]: [usize; 3], blocks: u8| bytes[x] & blocks != 0 && bytes[y] & blocks != 0 && (self.flat || bytes[z] & blocks != 0);
+        2 * u8::from(all(self.ahead, 1 | 2)) + 4 * u8::from(all(self.behind, 1 | 4))
     }
 }
 
-/// The places of all nodes, in node order.
-fn places(Sizes { w, h, d }: Sizes) -> impl Iterator<Item = [usize; 3]> {
-    (0..d).flat_map(move |z| (0..h).flat_map(move |y| (0..w).map(move |x| [x, y, z])))
+/// The six links of a node: whether each is there, and by how much it changes the node's number.
+struct Links {
+    sizes: Sizes,
+    step: [usize; 6],
 }
 
-/// The neighbours of a node in the six directions.
-fn neighbours(Sizes { w, h, d }: Sizes, node: usize, [x, y, z]: [usize; 3]) -> [Option<usize>; 6] {
-    let layer = w * h;
-    [
-        (x + 1 < w).then(|| node + 1),
-        (x > 0).then(|| node - 1),
-        (y + 1 < h).then(|| node + w),
-        (y > 0).then(|| node - w),
-        (z + 1 < d).then(|| node + layer),
-        (z > 0).then(|| node - layer),
-    ]
+impl Links {
+    fn new(sizes: Sizes) -> Links {
+        let (row, layer) = (sizes.w, sizes.w * sizes.h);
+        Links { sizes, step: [1, 1_usize.wrapping_neg(), row, row.wrapping_neg(), layer, layer.wrapping_neg()] }
+    }
+
+    fn there(&self, [x, y, z]: [usize; 3]) -> [bool; 6] {
+        let Sizes { w, h, d } = self.sizes;
+        [x + 1 < w, x > 0, y + 1 < h, y > 0, z + 1 < d, z > 0]
+    }
 }

@@ -46,13 +46,15 @@ pub fn reached(size: [u32; 3], start: u32, end: u32, cells: &[u8], out: &mut [u8
     let [nx, ny, nz] = way.box_size();
     for z in 0..nz {
         for y in 0..ny {
+            let first = way.node([0, y, z]);
+            let mut behind = y == 0 && z == 0;
             for x in 0..nx {
-                let node = way.node([x, y, z]);
-                let from = |steps: usize, axis: usize| steps > 0 && out[node.wrapping_sub(way.step[axis])] == 1;
-                if cells[node] == 0 && (x + y + z == 0 || from(x, 0) || from(y, 1) || from(z, 2)) {
-                    out[node] = 1;
-                    count += 1;
-                }
+                let node = first.wrapping_add(x.wrapping_mul(way.step[0]));
+                let from = |axis: usize| out[node.wrapping_sub(way.step[axis])] == 1;
+                let comes = behind | (y > 0 && from(1)) | (z > 0 && from(2));
+                behind = comes & (cells[node] == 0);
+                out[node] = u8::from(behind);
+                count += usize::from(behind);
             }
         }
     }
@@ -116,17 +118,16 @@ impl Way {
     /// For each place of the box between start and end, whether a path leads from it to the end.
     fn open(&self, cells: &[u8]) -> Vec<bool> {
         let [nx, ny, nz] = self.box_size();
-        let (row, layer) = (nx, nx * ny);
-        let mut open = vec![false; layer * nz];
+        let mut open = vec![false; nx * ny * nz];
         for z in (0..nz).rev() {
             for y in (0..ny).rev() {
+                let (at, node) = (nx * (y + ny * z), self.node([0, y, z]));
+                let mut ahead = y + 1 == ny && z + 1 == nz;
                 for x in (0..nx).rev() {
-                    let i = x + row * y + layer * z;
-                    open[i] = cells[self.node([x, y, z])] == 0
-                        && (i + 1 == open.len()
-                            || x + 1 < nx && open[i + 1]
-                            || y + 1 < ny && open[i + row]
-                            || z + 1 < nz && open[i + layer]);
+                    let i = at + x;
+                    let leads = ahead | (y + 1 < ny && open[i + nx]) | (z + 1 < nz && open[i + nx * ny]);
+                    ahead = leads & (cells[node.wrapping_add(x.wrapping_mul(self.step[0]))] == 0);
+                    open[i] = ahead;
                 }
             }
         }
