@@ -15,3 +15,4 @@ pub mod Few
 pub mod Nodes
 pub mod Outcomes
 pub mod Held
+pub mod Impostors
