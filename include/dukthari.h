@@ -50,6 +50,7 @@ typedef struct { uint32_t refusal, bad, w, h, d; } dk_map_answer;
 typedef struct { uint32_t refusal, node; } dk_node_answer;
 typedef struct { uint32_t refusal, x, y, z; } dk_place_answer;
 typedef struct { uint32_t refusal, there, x, y, z; } dk_step_answer; /* there 0: the mesh ends, and x, y, z are 0 */
+typedef struct { uint16_t count; uint8_t x0, y0, z0, x1, y1, z1; } dk_component; /* nodes; least and greatest coordinates */
 
 /* The number of the node at (x, y, z).
  * Refusals, in order: 1 sizes; 5 a place outside the mesh. */
@@ -68,10 +69,27 @@ dk_step_answer dk_step(uint32_t w, uint32_t h, uint32_t d, uint32_t x, uint32_t 
 dk_done dk_marks(uint32_t w, uint32_t h, uint32_t d, uint32_t orientation, const uint8_t *cells, size_t cells_len,
                  uint8_t *out, size_t out_len);
 
+/* The components of the unsafe nodes, numbered from 1 by their lowest node number. N numbers are written to table, 0 for a safe node, and one
+ * record for each component to row, in that order; later places stay. count: how many components there are, at most 1024.
+ * Refusals, in order: 1 sizes; 2 cells; 4 a bad cell; 5 the orientation; 3 table shorter than N, or row than count: neither has changed. */
+dk_counted dk_components(uint32_t w, uint32_t h, uint32_t d, uint32_t orientation, const uint8_t *cells, size_t cells_len,
+                         uint16_t *table, size_t table_len, dk_component *row, size_t row_len);
+
 /* May a transfer go from start to end by a path of Manhattan length through working nodes? Its hops, and the directions offered at the
  * start: bit k is set when such a path begins in direction k. At the end itself both are 0.
  * Refusals, in order: 1 sizes; 2 cells; 4 a bad cell; 5 a node N or above; 9 an end is faulty; 10 no path. */
 dk_verdict_answer dk_verdict(uint32_t w, uint32_t h, uint32_t d, uint32_t start, uint32_t end, const uint8_t *cells, size_t cells_len);
+
+/* The route: the path that takes the lowest-numbered offered direction at each node. Its node numbers go to the front of out; count is how
+ * many, hops + 1, at most 46. Later places stay.
+ * Refusals, in order: 1 sizes; 2 cells; 4 a bad cell; 5 a node N or above; 9 an end is faulty; 10 no path; 3 out too short. */
+dk_counted dk_route(uint32_t w, uint32_t h, uint32_t d, uint32_t start, uint32_t end, const uint8_t *cells, size_t cells_len,
+                    uint16_t *out, size_t out_len);
+
+/* A fresh state of the talking nodes for a map: 7 bytes for each node, its own mark byte, then what it has heard from directions 0 to 5.
+ * Refusals, in order: 1 sizes; 2 cells, or a state not exactly 7 * N bytes; 4 a bad cell; 5 the orientation. */
+dk_done dk_fresh(uint32_t w, uint32_t h, uint32_t d, uint32_t orientation, const uint8_t *cells, size_t cells_len,
+                 uint8_t *state, size_t state_len);
 
 /* Is this a sound state of the talking nodes?
  * Refusals, in order: 1 sizes; 2 the state's length; 5 the orientation; 6 unsound. */

@@ -136,14 +136,14 @@ module _ (S : Sizes) (cells : List ℕ) (o : ℕ) (old : List ℕ) (room : ℕ) 
         low : (k : ℕ) → k < nodes S → getD new k 0 ≡ getD (tableOf S marks) k 0
         low k l = C .done k l ∙ sym (ap (λ (t : List ℕ). getD t k 0) (sym (found .1)) ∙ getD-table at-spot (nodes S) k 0 l)
 
--- ---- with the records stored, the whole call
+-- ---- with the records stored, the whole call's table and row
 
 pub whole : (S : Sizes) (cells : List ℕ) (o : ℕ) (old new : List ℕ) (row row′ : List Component) (r : Outcome) → Computed S cells o (length row) old new r
     → row′ ≡ take (r .count) (r .records) ++ drop (r .count) row
-    → (r .answer ≡ componentsAnswer S cells o (length old) (length row)) × (new ≡ componentsTable S cells o old row) × (row′ ≡ componentsRow S cells o old row)
+    → (new ≡ componentsTable S cells o old row) × (row′ ≡ componentsRow S cells o old row)
 unfolding rowWritten
 whole S cells o old new row row′ r C e =
-    (C .answer, C .table, e ∙ rw (C .records, C .count) (written (componentsCheck S cells o (length old) (length row)) (recordsOf S (marksOf (mapOf S cells) o)) (howMany S (marksOf (mapOf S cells) o))))
+    (C .table, e ∙ rw (C .records, C .count) (written (componentsCheck S cells o (length old) (length row)) (recordsOf S (marksOf (mapOf S cells) o)) (howMany S (marksOf (mapOf S cells) o))))
   where
     written : (a : Answer) (all : List Component) (n : ℕ) → granted a all [] ++ drop (answerValue a n) row ≡ granted a (all ++ drop n row) row
     written Done all n = refl

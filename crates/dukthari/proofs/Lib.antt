@@ -1,2 +1,3 @@
 pub mod Impostors
 pub mod Small
+pub mod Groups

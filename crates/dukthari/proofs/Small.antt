@@ -12,7 +12,7 @@ use Rattle.mesh.specs.Tools.{between, bit, sum, count}
 use Rattle.mesh.specs.Mesh.{InRange, inRange, nodes, placeOf}
 use Rattle.mesh.specs.Cells.{mapOf, cellAt, mayEnd, badCell, firstBad, stateLength}
 use Rattle.mesh.specs.Marks.{isWord}
-use Rattle.mesh.specs.Answers.{refusalBad, answerBad, _andThen_, unless, numbered, checkSizes, checkCells, checkMap, checkOrientation, checkNode, checkDirection, checkRoom}
+use Rattle.mesh.specs.Answers.{refusalBad, answerBad, _andThen_, unless, numbered, answerValue, checkSizes, checkCells, checkMap, checkOrientation, checkNode, checkDirection, checkRoom}
 use Rattle.mesh.proofs.Answers.{split, ok-of, sizes-granted, node-granted, map-granted}
 use Rattle.mesh.proofs.Numbers.{nodes-le, place-in}
 use Rattle.mesh.specs.declared.Sizes.{Sizes}
@@ -20,18 +20,21 @@ use Rattle.mesh.specs.declared.Refusal.{Refusal}
 use Rattle.mesh.specs.declared.Refusal.the-variants.{BadSizes, BadLength, NoRoom, BadCell, BadNumber, Unsound, NoPair, NotHeld, FaultyEnd, NoPath, BadFile}
 use Rattle.mesh.specs.declared.Answer.{Answer}
 use Rattle.mesh.specs.declared.Answer.the-variants.{Done, Refused}
+use Rattle.mesh.specs.Marks.{marksOf}
 use Rattle.marks.specs.Entry.{marksAnswer}
+use Rattle.components.specs.Components.{howMany}
+use Rattle.components.specs.Entry.{componentsCheck, componentsAnswer}
 use Rattle.routes.specs.Differences.{hops}
 use Rattle.routes.specs.Paths.{leads}
 use Rattle.routes.specs.Offered.{offered}
-use Rattle.routes.specs.Entries.{judged, checkEnd, checkPath, checkEnds, verdictCheck, verdictAnswer}
+use Rattle.routes.specs.Entries.{judged, checkEnd, checkPath, checkEnds, verdictCheck, verdictAnswer, routeLength, routeCheck, routeAnswer}
 use Rattle.routes.proofs.Differences.{hops-le}
 use Rattle.mapfile.specs.Format.{trailerLength, fileLimit, distance, trailerAt, hasMark, sizesIn, distanceIn, cellsIn}
 use Rattle.mapfile.specs.Entry.{mapRead, checkFrame, checkTrailer, readCheck, readAnswer, writeCheck, writeAnswer}
 use Rattle.field.specs.State.{mapIn, pair, says}
 use Rattle.field.specs.Sound.{sound, within}
 use Rattle.field.specs.Hear.{news, outstandingOn, outstanding}
-use Rattle.field.specs.Entries.{checkState, soundAnswer, outstandingAnswer, checkWord, hearAnswer}
+use Rattle.field.specs.Entries.{checkState, freshAnswer, soundAnswer, outstandingAnswer, checkWord, hearAnswer}
 use Rattle.dukthari.specs.Answers.{NumberedFits, VerdictFits, MapFits}
 
 -- a check passes on the bad cell of the first refusal
@@ -89,6 +92,21 @@ marks-fits S cells o room =
     bad-and (checkMap S cells andThen checkOrientation o) (leb (nodes S) room) NoRoom refl
     (bad-and (checkMap S cells) (leb o 7) BadNumber refl (bad-map S cells))
 
+pub components-fits : (S : Sizes) (cells : List ℕ) (o tableRoom rowRoom : ℕ)
+    → answerValue (componentsCheck S cells o tableRoom rowRoom) (howMany S (marksOf (mapOf S cells) o)) ≤ 1024
+    → NumberedFits (componentsAnswer S cells o tableRoom rowRoom)
+unfolding componentsAnswer componentsCheck
+components-fits S cells o tableRoom rowRoom few =
+    let many = howMany S (marksOf (mapOf S cells) o) in
+    let c0 = checkMap S cells andThen checkOrientation o in
+    numbered-fits (c0 andThen checkRoom (nodes S) tableRoom andThen checkRoom many rowRoom) many
+    (bad-then 65536 (c0 andThen checkRoom (nodes S) tableRoom) (checkRoom many rowRoom)
+    (bad-then 65536 c0 (checkRoom (nodes S) tableRoom)
+    (bad-then 65536 (checkMap S cells) (checkOrientation o) (bad-map S cells) (λ _. bad-unless 65536 (leb o 7) BadNumber refl))
+    (λ _. bad-unless 65536 (leb (nodes S) tableRoom) NoRoom refl))
+    (λ _. bad-unless 65536 (leb many rowRoom) NoRoom refl))
+    (λ e. let k : many ≤ 1024 = subst (λ (a : Answer). answerValue a many ≤ 1024) e few in omega arith)
+
 pub write-fits : (S : Sizes) (cells : List ℕ) (room : ℕ) → NumberedFits (writeAnswer S cells room)
 unfolding writeAnswer writeCheck
 write-fits S cells room =
@@ -116,9 +134,11 @@ read-fits file room =
     made Done S h k = k refl
     made (Refused r) S h k = h
 
-pub verdict-fits : (S : Sizes) (cells : List ℕ) (s e : ℕ) → VerdictFits (verdictAnswer S cells s e)
-unfolding verdictAnswer verdictCheck checkEnds
-verdict-fits S cells s e =
+-- a verdict's bad cell fits, and where it is granted the hops do
+verdict-small : (S : Sizes) (cells : List ℕ) (s e : ℕ)
+    → (answerBad (verdictCheck S cells s e) ≤ 65536) × (verdictCheck S cells s e ≡ Done → hops (placeOf S s) (placeOf S e) ≤ 45)
+unfolding verdictCheck checkEnds
+verdict-small S cells s e =
     let m = mapOf S cells in
     let p = placeOf S s in
     let q = placeOf S e in
@@ -126,28 +146,48 @@ verdict-fits S cells s e =
     let c1 = c0 andThen checkNode S s in
     let c2 = c1 andThen checkNode S e in
     let c3 = c2 andThen checkEnd m p in
-    let c4 = c3 andThen checkEnd m q in
-    made (c4 andThen checkPath m p q) (hops p q) (offered m q p)
-    (bad-and c4 (leads m q p q) NoPath refl
-    (bad-and c3 (mayEnd (cellAt m q)) FaultyEnd refl
-    (bad-and c2 (mayEnd (cellAt m p)) FaultyEnd refl
-    (bad-and c1 (ltb e (nodes S)) BadNumber refl (bad-and c0 (ltb s (nodes S)) BadNumber refl (bad-map S cells))))))
-    (λ g.
-    let g3 = split c3 (checkEnd m q) (split c4 (checkPath m p q) g .0) .0 in
-    let (g1, ke) = split c1 (checkNode S e) (split c2 (checkEnd m p) g3 .0) in
-    let (g0, ks) = split c0 (checkNode S s) g1 in
-    let c = map-granted S cells g0 in
-    omega (arith, hops-le S p q (c .sized) (place-in S s (node-granted S s ks)) (place-in S e (node-granted S e ke))))
+    let c4 = c3 andThen checkEnd m q in (
+      bad-and c4 (leads m q p q) NoPath refl
+          (bad-and c3 (mayEnd (cellAt m q)) FaultyEnd refl
+          (bad-and c2 (mayEnd (cellAt m p)) FaultyEnd refl
+          (bad-and c1 (ltb e (nodes S)) BadNumber refl (bad-and c0 (ltb s (nodes S)) BadNumber refl (bad-map S cells))))),
+      λ g.
+          let g3 = split c3 (checkEnd m q) (split c4 (checkPath m p q) g .0) .0 in
+          let (g1, ke) = split c1 (checkNode S e) (split c2 (checkEnd m p) g3 .0) in
+          let (g0, ks) = split c0 (checkNode S s) g1 in
+          hops-le S p q (map-granted S cells g0 .sized) (place-in S s (node-granted S s ks)) (place-in S e (node-granted S e ke)),
+    )
+
+pub verdict-fits : (S : Sizes) (cells : List ℕ) (s e : ℕ) → VerdictFits (verdictAnswer S cells s e)
+unfolding verdictAnswer
+verdict-fits S cells s e =
+    let (b, k) = verdict-small S cells s e in
+    made (verdictCheck S cells s e) (hops (placeOf S s) (placeOf S e)) (offered (mapOf S cells) (placeOf S e) (placeOf S s)) b (λ g. omega (arith, k g))
   where
     made : (a : Answer) (h o : ℕ) → answerBad a ≤ 65536 → (a ≡ Done → h ≤ 65536) → VerdictFits (judged a h o)
     made Done h o b k = k refl
     made (Refused r) h o b k = b
+
+pub route-fits : (S : Sizes) (cells : List ℕ) (s e room : ℕ) → NumberedFits (routeAnswer S cells s e room)
+unfolding routeAnswer routeCheck
+route-fits S cells s e room =
+    let (b, k) = verdict-small S cells s e in
+    let need = routeLength S s e in
+    numbered-fits (verdictCheck S cells s e andThen checkRoom need room) need
+    (bad-and (verdictCheck S cells s e) (leb need room) NoRoom refl b)
+    (λ g. omega (arith, k (split (verdictCheck S cells s e) (checkRoom need room) g .0)))
 
 -- ---- the calls on a state
 
 bad-state : (S : Sizes) (long : ℕ) → answerBad (checkState S long) ≤ 65536
 unfolding checkState
 bad-state S long = bad-and (checkSizes S) (eqb long (stateLength S)) BadLength refl (bad-unless 65536 (inRange S) BadSizes refl)
+
+pub fresh-fits : (S : Sizes) (cells : List ℕ) (o room : ℕ) → answerBad (freshAnswer S cells o room) ≤ 65536
+unfolding freshAnswer
+fresh-fits S cells o room =
+    bad-and (checkState S room andThen checkMap S cells) (leb o 7) BadNumber refl
+    (bad-then 65536 (checkState S room) (checkMap S cells) (bad-state S room) (λ _. bad-map S cells))
 
 pub sound-fits : (S : Sizes) (o : ℕ) (s : List ℕ) → answerBad (soundAnswer S o s) ≤ 65536
 unfolding soundAnswer

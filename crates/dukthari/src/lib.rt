@@ -3,9 +3,11 @@ use crate::fields::counted;
 use crate::fields::done;
 use crate::fields::judged;
 use crate::fields::place_at;
-use crate::fields::read;
 use crate::fields::refusal_no;
 use crate::fields::sizes_of;
+use crate::grouping::compute;
+use components::Component;
+use components::storing::store;
 use mesh::Next;
 use mesh::Numbered;
 use mesh::Placed;
@@ -15,12 +17,14 @@ ghost use lib.ListN.{length};
 ghost use Rattle.mesh.specs.Mesh.{sizes, place};
 ghost use Rattle.mesh.specs.Answers.{numberAnswer, placeAnswer, stepAnswer};
 ghost use Rattle.marks.specs.Entry.{marksAnswer, marksOut};
-ghost use Rattle.routes.specs.Entries.{verdictAnswer};
-ghost use Rattle.field.specs.Entries.{soundAnswer, outstandingAnswer, hearAnswer, hearOut};
-ghost use Rattle.mapfile.specs.Entry.{readAnswer, readOut, writeAnswer, writeOut};
-ghost use Rattle.dukthari.specs.Answers.{nodeFields, placeFields, stepFields, doneFields, countedFields, verdictFields, mapFields};
+ghost use Rattle.components.specs.Entry.{componentsAnswer, componentsTable, componentsRow};
+ghost use Rattle.routes.specs.Entries.{verdictAnswer, routeAnswer, routeOut};
+ghost use Rattle.dukthari.specs.Answers.{nodeFields, placeFields, stepFields, doneFields, countedFields, verdictFields};
 
 mod fields;
+pub mod files;
+mod grouping;
+pub mod states;
 
 #[repr(C)]
 pub struct NodeAnswer {
@@ -74,6 +78,13 @@ pub struct MapAnswer {
     pub w: u32,
     pub h: u32,
     pub d: u32,
+}
+
+// The fields of the answer for components, and the records that are still to be stored: none on a refusal.
+pub struct Grouped {
+    pub answer: CountedAnswer,
+    pub count: usize,
+    pub records: [Component; 1024],
 }
 
 // The number of a place. Refusals: 1, 5.
@@ -184,6 +195,26 @@ pub extern "C" fn dk_marks(
     done(a)
 }
 
+// The components of a map: the table of numbers, and the row of records. Refusals: 1, 2, 4, 5, 3.
+#[no_mangle]
+pub extern "C" fn dk_components(
+    w: u32,
+    h: u32,
+    d: u32,
+    orientation: u32,
+    cells: &[u8],
+    table: &mut [u16],
+    row: &mut [Component],
+) -> CountedAnswer
+    ensures { λ r. ⌜ (r ≡ countedFields (componentsAnswer (sizes w h d) (now (cells .entry)) orientation (length (now (table .entry))) (length (now (row .entry)))))
+        × (now (table .exit) ≡ componentsTable (sizes w h d) (now (cells .entry)) orientation (now (table .entry)) (now (row .entry)))
+        × (now (row .exit) ≡ componentsRow (sizes w h d) (now (cells .entry)) orientation (now (table .entry)) (now (row .entry))) ⌝ }
+{
+    let found = compute(w, h, d, orientation, cells, table, row.len());
+    store(found.records, found.count, row);
+    found.answer
+}
+
 // The hops and the offered set at the start. Refusals: 1, 2, 4, 5, 9, 10.
 #[no_mangle]
 pub extern "C" fn dk_verdict(
@@ -200,78 +231,20 @@ pub extern "C" fn dk_verdict(
     judged(a)
 }
 
-// Is the state sound? Refusals: 1, 2, 5, 6.
+// The route: its nodes to the front of out, and how many. Refusals: 1, 2, 4, 5, 9, 10, 3.
 #[no_mangle]
-pub extern "C" fn dk_sound(w: u32, h: u32, d: u32, orientation: u32, state: &[u8]) -> DoneAnswer
-    ensures { λ r. ⌜ r ≡ doneFields (soundAnswer (sizes w h d) orientation (now (state .entry))) ⌝ }
-{
-    let a = field::entry::sound(sizes_of(w, h, d), orientation as usize, state);
-    done(a)
-}
-
-// How many words are outstanding. Refusals: 1, 2, 5, 6.
-#[no_mangle]
-pub extern "C" fn dk_outstanding(
+pub extern "C" fn dk_route(
     w: u32,
     h: u32,
     d: u32,
-    orientation: u32,
-    state: &[u8],
-) -> CountedAnswer
-    ensures { λ r. ⌜ r ≡ countedFields (outstandingAnswer (sizes w h d) orientation (now (state .entry))) ⌝ }
-{
-    let a = field::entry::outstanding(sizes_of(w, h, d), orientation as usize, state);
-    counted(a)
-}
-
-// The listener hears a word from a direction. Refusals: 1, 2, 5, 6, 7, 8.
-#[no_mangle]
-pub extern "C" fn dk_hear(
-    w: u32,
-    h: u32,
-    d: u32,
-    orientation: u32,
-    listener: u32,
-    direction: u32,
-    word: u32,
-    state: &mut [u8],
-) -> DoneAnswer
-    ensures { λ r. ⌜ r ≡ doneFields (hearAnswer (sizes w h d) orientation listener direction word (now (state .entry))) ⌝ }
-    ensures { λ _. ⌜ now (state .exit) ≡ hearOut (sizes w h d) orientation listener direction word (now (state .entry)) ⌝ }
-{
-    let a = field::entry::hear(
-        sizes_of(w, h, d),
-        orientation as usize,
-        listener as usize,
-        direction as usize,
-        word as usize,
-        state,
-    );
-    done(a)
-}
-
-// Reads a map file. Refusals: 11, 1, 11, 3, 4.
-#[no_mangle]
-pub extern "C" fn dk_read_map(file: &[u8], cells: &mut [u8]) -> MapAnswer
-    ensures { λ r. ⌜ r ≡ mapFields (readAnswer (now (file .entry)) (length (now (cells .entry)))) ⌝ }
-    ensures { λ _. ⌜ now (cells .exit) ≡ readOut (now (file .entry)) (now (cells .entry)) ⌝ }
-{
-    let a = mapfile::reader::read_map(file, cells);
-    read(a)
-}
-
-// Writes a map file; its length. Refusals: 1, 2, 4, 3.
-#[no_mangle]
-pub extern "C" fn dk_write_map(
-    w: u32,
-    h: u32,
-    d: u32,
+    start: u32,
+    end: u32,
     cells: &[u8],
-    out: &mut [u8],
+    out: &mut [u16],
 ) -> CountedAnswer
-    ensures { λ r. ⌜ r ≡ countedFields (writeAnswer (sizes w h d) (now (cells .entry)) (length (now (out .entry)))) ⌝ }
-    ensures { λ _. ⌜ now (out .exit) ≡ writeOut (sizes w h d) (now (cells .entry)) (now (out .entry)) ⌝ }
+    ensures { λ r. ⌜ r ≡ countedFields (routeAnswer (sizes w h d) (now (cells .entry)) start end (length (now (out .entry)))) ⌝ }
+    ensures { λ _. ⌜ now (out .exit) ≡ routeOut (sizes w h d) (now (cells .entry)) start end (now (out .entry)) ⌝ }
 {
-    let a = mapfile::writer::write_map(sizes_of(w, h, d), cells, out);
+    let a = routes::entries::route(sizes_of(w, h, d), cells, start as usize, end as usize, out);
     counted(a)
 }

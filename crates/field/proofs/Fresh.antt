@@ -38,14 +38,14 @@ module _ (m : Map) (o : ℕ) where
   abbrev byteAt : ℕ → ℕ
   byteAt i = freshByte m o (i / 7) (i % 7)
 
-  fresh-own : (k : ℕ) → k < nodes (m .sizes) → own s k ≡ freshOwn m o k
+  pub fresh-own : (k : ℕ) → k < nodes (m .sizes) → own s k ≡ freshOwn m o k
   unfolding fresh
   fresh-own k h =
       let e : 7 * k / 7 ≡ k = omega arith in
       let f : 7 * k % 7 ≡ 0 = omega arith in
       getD-table byteAt (stateLength (m .sizes)) (7 * k) 0 (omega arith) ∙ ap₂ (freshByte m o) e f
 
-  fresh-heard : (k j : ℕ) → k < nodes (m .sizes) → j < 6 → heard s k j ≡ freshHeard m k j
+  pub fresh-heard : (k j : ℕ) → k < nodes (m .sizes) → j < 6 → heard s k j ≡ freshHeard m k j
   unfolding fresh
   fresh-heard k j h l =
       let e : (7 * k + 1 + j) / 7 ≡ k = omega arith in

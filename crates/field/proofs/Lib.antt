@@ -7,6 +7,7 @@ pub mod Shown
 pub mod Tested
 pub mod Scanned
 pub mod Fresh
+pub mod Made
 pub mod Hear
 pub mod Calls
 pub mod Taken

@@ -68,14 +68,19 @@ module _ (S : Sizes) (s : List ℕ) where
       pub shows-down : shows S s k (along a true) ≡ shownDown s k (on p a) (stride S a)
       shows-down = rw e (down-at a)
 
+-- what is had of all nodes is had of the neighbours
+pub beside : (S : Sizes) (Has : ℕ → Type 0) → ((k : ℕ) → k < nodes S → Has k)
+    → (p : Place) → Inside S p → (k : ℕ) → k ≡ number S p → (a : Axis) → Near Has k (on p a) (span S a) (stride S a)
+beside S Has has p i k e a = rw e (record {
+  here = has (number S p) (number-lt S p i);
+  above = λ h. has (number S p + stride S a) (up-lt S p i a h);
+  below = down-le S p i a;
+})
+
 -- what the code asks before it reads
 module _ (S : Sizes) (s : List ℕ) (r : Ready S s) where
   pub held : (k : ℕ) → k < nodes S → Held s k
   held k h = record { low = omega (arith, nodes-le S (r .sized)); room = omega (arith, r .long) }
 
-  pub near : (p : Place) → Inside S p → (k : ℕ) → k ≡ number S p → (a : Axis) → Near s k (on p a) (span S a) (stride S a)
-  near p i k e a = rw e (record {
-    here = held (number S p) (number-lt S p i);
-    above = λ h. held (number S p + stride S a) (up-lt S p i a h);
-    below = down-le S p i a;
-  })
+  pub near : (p : Place) → Inside S p → (k : ℕ) → k ≡ number S p → (a : Axis) → Near (Held s) k (on p a) (span S a) (stride S a)
+  near = beside S (Held s) held

@@ -80,7 +80,7 @@ or-marks b w s t = word-cases (λ b. bitOr b w ≡ addMarks b w)
     b s
 
 -- a working node of a sound state has heard 8, 1 or words
-heard-byte : (m : Map) (o : ℕ) (s : List ℕ) → SoundOn m o s → (k j : ℕ) → k < nodes (m .sizes) → T (worksNode m k) → j < 6 → T (isHeard (heard s k j))
+pub heard-byte : (m : Map) (o : ℕ) (s : List ℕ) → SoundOn m o s → (k j : ℕ) → k < nodes (m .sizes) → T (worksNode m k) → j < 6 → T (isHeard (heard s k j))
 unfolding isHeard isOwn isWord
 heard-byte m o s z k j l w h = go (next (m .sizes) (placeOf (m .sizes) k) j) refl
   where

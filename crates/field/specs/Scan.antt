@@ -6,15 +6,15 @@ use mathlib.Core.Path.{_≡_}
 use Prim.Native.Nat.{ℕ, _+_, _-_, _*_, _/_, _%_, _<_, _≤_}
 use lib.Bits.{bitAnd, bitOr}
 use lib.Dec.{eqb, ltb}
-use lib.ListN.{length}
+use lib.ListN.{length, getD}
 use Rattle.mesh.specs.Tools.{bit, all, sum, count}
 use Rattle.mesh.specs.Mesh.{InRange, number, placeOf}
 use Rattle.mesh.specs.Steps.{reversed}
-use Rattle.mesh.specs.Cells.{stateLength}
+use Rattle.mesh.specs.Cells.{Map, faultyCell, stateLength}
 use Rattle.mesh.specs.Marks.{rule, isWord, readAt}
 use Rattle.mesh.specs.declared.Sizes.{Sizes}
 use Rattle.field.specs.State.{own, heard, mapIn}
-use Rattle.field.specs.Sound.{faultyHears}
+use Rattle.field.specs.Sound.{faultyHears, freshHeard, freshOwn}
 
 -- what the checks before the scan have granted
 pub record Ready (S : Sizes) (s : List ℕ) : Type 0 where
@@ -56,11 +56,11 @@ shownUp s k c n step = cond (ltb (c + 1) n) (own s (k + step)) 8
 abbrev pub shownDown : List ℕ → ℕ → ℕ → ℕ → ℕ
 shownDown s k c step = cond (ltb 0 c) (own s (k - step)) 8
 
--- those neighbours have their bytes in s
-pub record Near (s : List ℕ) (k c n step : ℕ) : Type 0 where
-  pub here : Held s k
-  pub above : c + 1 < n → Held s (k + step)
-  pub below : 0 < c → (step ≤ k)
+-- what is had of node k is had of those neighbours too
+pub record Near (Has : ℕ → Type 0) (k c n step : ℕ) : Type 0 where
+  pub here : Has k
+  pub above : c + 1 < n → Has (k + step)
+  pub below : 0 < c → step ≤ k
 
 -- what node k's neighbour in direction j shows it
 unfoldable pub shows : Sizes → List ℕ → ℕ → ℕ → ℕ
@@ -87,3 +87,24 @@ nodeNews S s k = cond (eqb (own s k) 1) 0 (count 6 λ j. not (eqb (shows S s k j
 -- in row r
 abbrev pub rowNews : Sizes → List ℕ → ℕ → ℕ
 rowNews S s r = sum (S .w) λ x. nodeNews S s (x + S .w * r)
+
+-- ---- making a fresh state
+
+-- what a node hears on an axis from neighbours that say 0
+abbrev pub freshUp : List ℕ → ℕ → ℕ → ℕ → ℕ → ℕ
+freshUp cells k c n step = cond (ltb (c + 1) n) (bit (faultyCell (getD cells (k + step) 0))) 8
+
+abbrev pub freshDown : List ℕ → ℕ → ℕ → ℕ → ℕ
+freshDown cells k c step = cond (ltb 0 c) (bit (faultyCell (getD cells (k - step) 0))) 8
+
+-- node k now holds v for direction j and w for the next; nothing else has changed
+pub record Stored (old new : List ℕ) (k j v w : ℕ) : Type 0 where
+  pub up : heard new k j ≡ v
+  pub down : heard new k (j + 1) ≡ w
+  pub kept : (i : ℕ) → (i ≡ 7 * k + 1 + j → ⊥) → (i ≡ 7 * k + 1 + (j + 1) → ⊥) → getD new i 0 ≡ getD old i 0
+
+-- the first n nodes hold what the fresh state does
+pub record Fresh (m : Map) (o n : ℕ) (s : List ℕ) : Type 0 where
+  pub long : length s ≡ stateLength (m .sizes)
+  pub owns : (k : ℕ) → k < n → own s k ≡ freshOwn m o k
+  pub hears : (k j : ℕ) → k < n → j < 6 → heard s k j ≡ freshHeard m k j

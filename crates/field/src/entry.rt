@@ -2,6 +2,7 @@
 use crate::bytes::rule_byte;
 use crate::bytes::state_length;
 use crate::bytes::unfit;
+use crate::making::put_fresh;
 use crate::news::all_news;
 use crate::pairs::pair;
 use crate::pairs::says;
@@ -10,12 +11,14 @@ use mesh::Answer;
 use mesh::Numbered;
 use mesh::Refusal;
 use mesh::Sizes;
+use mesh::cells::check_map;
 ghost use mathlib.Core.Path.{_≡_};
+ghost use lib.ListN.{length};
 ghost use Rattle.mesh.specs.Answers.{_andThen_, checkOrientation, checkNode, checkDirection};
 ghost use Rattle.mesh.specs.Marks.{isWord};
 ghost use Rattle.mesh.specs.declared.Answer.the-variants.{Done};
 ghost use Rattle.field.specs.Hear.{changed};
-ghost use Rattle.field.specs.Entries.{checkState, checkWord, soundAnswer, outstandingAnswer, hearAnswer, hearOut};
+ghost use Rattle.field.specs.Entries.{checkState, checkWord, freshAnswer, freshOut, soundAnswer, outstandingAnswer, hearAnswer, hearOut};
 
 // Refusals 1 and 2, for a state of so many bytes.
 fn check_state(s: Sizes, long: usize) -> Answer
@@ -28,6 +31,37 @@ fn check_state(s: Sizes, long: usize) -> Answer
         return Answer::Refused(Refusal::BadLength);
     }
     Answer::Done
+}
+
+// Refusals 1, 2, 4 and 5, for a room of so many bytes.
+fn check_fresh(s: Sizes, cells: &[u8], o: usize, room: usize) -> Answer
+    ensures { λ r. ⌜ r ≡ freshAnswer s (now (cells .entry)) o room ⌝ }
+{
+    let a = check_state(s, room);
+    let Answer::Done = a else {
+        return a;
+    };
+    let b = check_map(s, cells);
+    let Answer::Done = b else {
+        return b;
+    };
+    if o > 7 {
+        return Answer::Refused(Refusal::BadNumber);
+    }
+    Answer::Done
+}
+
+// A fresh state of the map: refusals 1, 2, 4 and 5.
+pub fn fresh(s: Sizes, cells: &[u8], orientation: usize, state: &mut [u8]) -> Answer
+    ensures { λ r. ⌜ r ≡ freshAnswer s (now (cells .entry)) orientation (length (now (state .entry))) ⌝ }
+    ensures { λ _. ⌜ now (state .exit) ≡ freshOut s (now (cells .entry)) orientation (now (state .entry)) ⌝ }
+{
+    let a = check_fresh(s, cells, orientation, state.len());
+    let Answer::Done = a else {
+        return a;
+    };
+    put_fresh(s, cells, orientation, state);
+    a
 }
 
 // Is the state sound? Refusals 1, 2, 5 and 6.

@@ -2,6 +2,7 @@
 
 pub mod bytes;
 pub mod entry;
+pub mod making;
 pub mod news;
 pub mod pairs;
 pub mod scan;

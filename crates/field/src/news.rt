@@ -10,7 +10,7 @@ ghost use lib.Dec.{eqb};
 ghost use Rattle.mesh.specs.Tools.{bit, sum};
 ghost use Rattle.mesh.specs.Mesh.{Inside, nodes, number};
 ghost use Rattle.field.specs.State.{heard};
-ghost use Rattle.field.specs.Scan.{Ready, Near, shownUp, shownDown, nodeNews, rowNews};
+ghost use Rattle.field.specs.Scan.{Ready, Held, Near, shownUp, shownDown, nodeNews, rowNews};
 
 // 1 if a neighbour shows another byte than was heard, else 0.
 fn new(n: u8, b: u8) -> usize
@@ -21,7 +21,7 @@ fn new(n: u8, b: u8) -> usize
 
 // How many words are outstanding for node k on an axis, in directions j and j + 1.
 fn axis_news(state: &[u8], k: usize, j: usize, c: usize, n: usize, step: usize) -> usize
-    requires { ⌜ (j < 5) × (c < n) × Near (now state) k c n step ⌝ }
+    requires { ⌜ (j < 5) × (c < n) × Near (Held (now state)) k c n step ⌝ }
     ensures { λ r. ⌜ (r
         ≡ bit (not (eqb (shownUp (now (state .entry)) k c n step) (heard (now (state .entry)) k j)))
         + bit (not (eqb (shownDown (now (state .entry)) k c step) (heard (now (state .entry)) k (j + 1))))) × (r ≤ 2) ⌝ }

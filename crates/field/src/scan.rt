@@ -17,7 +17,7 @@ ghost use Rattle.field.specs.Scan.{Ready, Held, Near, fits, shownUp, sho
 
 // What the neighbour with the next coordinate on an axis shows node k.
 pub fn shown_up(state: &[u8], k: usize, c: usize, n: usize, step: usize) -> u8
-    requires { ⌜ (c < n) × Near (now state) k c n step ⌝ }
+    requires { ⌜ (c < n) × Near (Held (now state)) k c n step ⌝ }
     ensures { λ r. ⌜ r ≡ shownUp (now (state .entry)) k c n step ⌝ }
 {
     if c + 1 < n { state[7 * (k + step)] } else { 8 }
@@ -25,7 +25,7 @@ pub fn shown_up(state: &[u8], k: usize, c: usize, n: usize, step: usize) -> u8
 
 // And the one with the coordinate before.
 pub fn shown_down(state: &[u8], k: usize, c: usize, n: usize, step: usize) -> u8
-    requires { ⌜ Near (now state) k c n step ⌝ }
+    requires { ⌜ Near (Held (now state)) k c n step ⌝ }
     ensures { λ r. ⌜ r ≡ shownDown (now (state .entry)) k c step ⌝ }
 {
     if 0 < c { state[7 * (k - step)] } else { 8 }
@@ -33,7 +33,7 @@ pub fn shown_down(state: &[u8], k: usize, c: usize, n: usize, step: usize) -> u8
 
 // 0 if what node k has heard on an axis, in directions j and j + 1, is right.
 fn axis_wrong(state: &[u8], k: usize, j: usize, c: usize, n: usize, step: usize) -> u8
-    requires { ⌜ (j < 5) × (c < n) × Near (now state) k c n step ⌝ }
+    requires { ⌜ (j < 5) × (c < n) × Near (Held (now state)) k c n step ⌝ }
     ensures { λ r. ⌜ eqb r 0
         ≡ (fits (shownUp (now (state .entry)) k c n step) (heard (now (state .entry)) k j)
         && fits (shownDown (now (state .entry)) k c step) (heard (now (state .entry)) k (j + 1))) ⌝ }

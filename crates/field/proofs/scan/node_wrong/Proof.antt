@@ -5,7 +5,7 @@ use denote.Ref.{now}
 use Rattle.mesh.specs.Mesh.{Axis, X, Y, Z, span, on}
 use Rattle.mesh.proofs.Numbers.{layer-le}
 use Rattle.mesh.proofs.Strides.{stride}
-use Rattle.field.specs.Scan.{Near, nodeTest}
+use Rattle.field.specs.Scan.{Held, Near, nodeTest}
 use Rattle.field.proofs.Shown.{near}
 use Rattle.field.proofs.Tested.{faulty-test, working-test}
 use borrow.Author.Needs.{needs}
@@ -14,7 +14,7 @@ use Rattle.field.proofs.scan.node_wrong.Tie as tie
 
 -- what the calls ask of the bytes that they read
 near-on : (n : tie.After-number) (a : Axis) →
-    let c = n .before .before .args in Near (now (c .state)) (n .number .result) (on (c .p) a) (span (c .s) a) (stride (c .s) a)
+    let c = n .before .before .args in Near (Held (now (c .state))) (n .number .result) (on (c .p) a) (span (c .s) a) (stride (c .s) a)
 near-on n a = let s = n .before .before in near (s .args .s) (now (s .args .state)) (s .pre .0) (s .args .p) (s .pre .2) _ (n .number .ensures .0) a
 
 number-requires : tie.Need-number-requires

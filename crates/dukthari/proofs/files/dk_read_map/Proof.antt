@@ -1,9 +1,9 @@
--- `dukthari::dk_read_map` meets its contract: the answer is passed on, and its sizes fit. Assumes nothing.
+-- `dukthari::files::dk_read_map` meets its contract: the answer is passed on, and its sizes fit. Assumes nothing.
 use mathlib.Core.Path.{_∙_, sym, ap}
 use Rattle.dukthari.proofs.Small.{read-fits}
 use borrow.Author.Needs.{needs}
-use Rattle.dukthari.proofs.dk_read_map.Statement.{statement}
-use Rattle.dukthari.proofs.dk_read_map.Tie as tie
+use Rattle.dukthari.proofs.files.dk_read_map.Statement.{statement}
+use Rattle.dukthari.proofs.files.dk_read_map.Tie as tie
 
 read-map-requires : tie.Need-read-map-requires
 read-map-requires c κs = search needs

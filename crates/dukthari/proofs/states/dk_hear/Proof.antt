@@ -1,9 +1,9 @@
--- `dukthari::dk_hear` meets its contract: the answer is passed on, and it fits. Assumes nothing.
+-- `dukthari::states::dk_hear` meets its contract: the answer is passed on, and it fits. Assumes nothing.
 use mathlib.Core.Path.{_∙_}
 use Rattle.dukthari.proofs.Small.{hear-fits}
 use borrow.Author.Needs.{needs}
-use Rattle.dukthari.proofs.dk_hear.Statement.{statement}
-use Rattle.dukthari.proofs.dk_hear.Tie as tie
+use Rattle.dukthari.proofs.states.dk_hear.Statement.{statement}
+use Rattle.dukthari.proofs.states.dk_hear.Tie as tie
 
 sizes-of-requires : tie.Need-sizes-of-requires
 sizes-of-requires c κs = search needs

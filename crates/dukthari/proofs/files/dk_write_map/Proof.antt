@@ -1,9 +1,9 @@
--- `dukthari::dk_write_map` meets its contract: the answer is passed on, and its length fits. Assumes nothing.
+-- `dukthari::files::dk_write_map` meets its contract: the answer is passed on, and its length fits. Assumes nothing.
 use mathlib.Core.Path.{_∙_, sym, ap}
 use Rattle.dukthari.proofs.Small.{write-fits}
 use borrow.Author.Needs.{needs}
-use Rattle.dukthari.proofs.dk_write_map.Statement.{statement}
-use Rattle.dukthari.proofs.dk_write_map.Tie as tie
+use Rattle.dukthari.proofs.files.dk_write_map.Statement.{statement}
+use Rattle.dukthari.proofs.files.dk_write_map.Tie as tie
 
 sizes-of-requires : tie.Need-sizes-of-requires
 sizes-of-requires c κs = search needs

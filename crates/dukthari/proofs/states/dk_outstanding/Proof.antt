@@ -1,9 +1,9 @@
--- `dukthari::dk_outstanding` meets its contract: the answer is passed on, and its count fits. Assumes nothing.
+-- `dukthari::states::dk_outstanding` meets its contract: the answer is passed on, and its count fits. Assumes nothing.
 use mathlib.Core.Path.{_∙_}
 use Rattle.dukthari.proofs.Small.{outstanding-fits}
 use borrow.Author.Needs.{needs}
-use Rattle.dukthari.proofs.dk_outstanding.Statement.{statement}
-use Rattle.dukthari.proofs.dk_outstanding.Tie as tie
+use Rattle.dukthari.proofs.states.dk_outstanding.Statement.{statement}
+use Rattle.dukthari.proofs.states.dk_outstanding.Tie as tie
 
 sizes-of-requires : tie.Need-sizes-of-requires
 sizes-of-requires c κs = search needs

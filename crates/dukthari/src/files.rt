@@ -1,0 +1,37 @@
+// The calls on map files.
+use crate::CountedAnswer;
+use crate::MapAnswer;
+use crate::fields::counted;
+use crate::fields::read;
+use crate::fields::sizes_of;
+ghost use mathlib.Core.Path.{_≡_};
+ghost use lib.ListN.{length};
+ghost use Rattle.mesh.specs.Mesh.{sizes};
+ghost use Rattle.mapfile.specs.Entry.{readAnswer, readOut, writeAnswer, writeOut};
+ghost use Rattle.dukthari.specs.Answers.{countedFields, mapFields};
+
+// Reads a map file. Refusals: 11, 1, 11, 3, 4.
+#[no_mangle]
+pub extern "C" fn dk_read_map(file: &[u8], cells: &mut [u8]) -> MapAnswer
+    ensures { λ r. ⌜ r ≡ mapFields (readAnswer (now (file .entry)) (length (now (cells .entry)))) ⌝ }
+    ensures { λ _. ⌜ now (cells .exit) ≡ readOut (now (file .entry)) (now (cells .entry)) ⌝ }
+{
+    let a = mapfile::reader::read_map(file, cells);
+    read(a)
+}
+
+// Writes a map file; its length. Refusals: 1, 2, 4, 3.
+#[no_mangle]
+pub extern "C" fn dk_write_map(
+    w: u32,
+    h: u32,
+    d: u32,
+    cells: &[u8],
+    out: &mut [u8],
+) -> CountedAnswer
+    ensures { λ r. ⌜ r ≡ countedFields (writeAnswer (sizes w h d) (now (cells .entry)) (length (now (out .entry)))) ⌝ }
+    ensures { λ _. ⌜ now (out .exit) ≡ writeOut (sizes w h d) (now (cells .entry)) (now (out .entry)) ⌝ }
+{
+    let a = mapfile::writer::write_map(sizes_of(w, h, d), cells, out);
+    counted(a)
+}

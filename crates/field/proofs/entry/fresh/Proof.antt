@@ -1,0 +1,62 @@
+-- `field::entry::fresh` meets its contract: what is lent changes only where no refusal stands. Assumes nothing.
+use mathlib.Core.Path.{_≡_, _∙_, sym}
+use denote.Ref.{now}
+use lib.ListN.{length}
+use Rattle.mesh.specs.Cells.{mapOf}
+use Rattle.mesh.specs.declared.Answer.the-variants.{Done}
+use Rattle.mesh.proofs.Answers.{kept, map-granted}
+use Rattle.field.specs.Sound.{fresh}
+use Rattle.field.specs.Entries.{freshAnswer}
+use Rattle.field.proofs.Calls.{fresh-passed}
+use borrow.Author.Needs.{needs}
+use Rattle.field.proofs.entry.fresh.Statement.{statement}
+use Rattle.field.proofs.entry.fresh.Tie as tie
+
+in-order : (c : tie.After-enum-told)
+    → let a = c .before .before .before .before .before .args in freshAnswer (a .s) (now (a .cells)) (a .orientation) (length (now (a .state))) ≡ Done
+in-order c = sym (c .before .before .check-fresh .ensures) ∙ c .enum-told .given .1
+
+check-fresh-requires : tie.Need-check-fresh-requires
+check-fresh-requires c κs = search needs
+
+enum-told : tie.Need-enum-told
+enum-told c = search needs
+
+enum-told-2 : tie.Need-enum-told-2
+enum-told-2 c = search needs
+
+returns : tie.Need-returns
+returns c =
+    let k = c .before .before in
+    let a = k .before .before .before .args in
+    let new = fresh (mapOf (a .s) (now (a .cells))) (a .orientation) in
+    let e = k .check-fresh .ensures in
+    (e, sym (kept _ _ new (now (a .state)) (sym e ∙ c .enum-told2 .given .1)))
+
+put-fresh-requires : tie.Need-put-fresh-requires
+put-fresh-requires c κs =
+    let a = c .before .before .before .before .before .before .args in
+    let (((_, long), map), turned) = fresh-passed (a .s) (now (a .cells)) (a .orientation) (length (now (a .state))) .0 (in-order (c .before)) in
+    let m = map-granted (a .s) (now (a .cells)) map in
+    (m .sized, turned, m .whole, long)
+
+same-length : tie.Need-same-length
+same-length c = search needs
+
+returns-2 : tie.Need-returns-2
+returns-2 c =
+    let k = c .before .before in
+    let t = k .before .before in
+    (t .before .before .check-fresh .ensures, rw (in-order t) (k .put-fresh .ensures))
+
+pub fresh-spec : {M : Type 1} → statement M
+fresh-spec =
+    tie.close
+    (tie.spec
+    check-fresh-requires
+    enum-told
+    enum-told-2
+    returns
+    put-fresh-requires
+    same-length
+    returns-2)
