@@ -18,7 +18,7 @@ fn trailer(size: Size) -> Vec<u8> {
     bytes
 }
 
-fn file(notes: &[u8], size: Size, cells: &[u8]) -> Vec<u8> {
+pub fn file(notes: &[u8], size: Size, cells: &[u8]) -> Vec<u8> {
     [notes, cells, &trailer(size)].concat()
 }
 

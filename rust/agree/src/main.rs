@@ -3,6 +3,7 @@
 //!
 //!     agree [plain] PROGRAM [WORD..]    the calls as the C program rust/c/serve.c makes them, started by these words
 //!     agree [plain]                     without them
+//!     agree reports PROGRAM [WORD..]    the report's text, as a program prints it that is started by these words and names of files
 //!
 //! The calls as the Rust wrapper makes them are compared beside them, where there is an archive for this machine. With `plain` the plain Rust
 //! program, the yardstick for speed, is compared too.
@@ -17,8 +18,10 @@ mod maps;
 mod marks;
 mod places;
 mod random;
+mod reports;
 mod request;
 mod routes;
+mod samples;
 
 use call::Call;
 use comparison::{Comparison, Tally};
@@ -40,6 +43,7 @@ fn jobs() -> Vec<Job> {
     for i in 0..4 {
         jobs.push(Box::new(move |all| routes::small(all, i, 4)));
     }
+    jobs.push(Box::new(samples::all));
     jobs.push(Box::new(places::bad_numbers));
     jobs.push(Box::new(marks::refusals));
     jobs.push(Box::new(routes::refusals));
@@ -66,6 +70,9 @@ fn open(plain: bool, words: &[String]) -> Vec<Box<dyn Library>> {
 
 fn main() {
     let mut words: Vec<String> = std::env::args().skip(1).collect();
+    if words.len() > 1 && words[0] == "reports" {
+        return reports::compare(&words[1..]);
+    }
     let plain = words.first().map_or(false, |word| word == "plain");
     if plain {
         words.remove(0);

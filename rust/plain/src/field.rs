@@ -77,6 +77,7 @@ fn check_state(size: [u32; 3], state: &[u8]) -> Result<Sizes, Refused> {
 }
 
 /// Refuses a state that is not sound, and counts the words outstanding in one that is.
+#[inline(never)] // the same code for all three
 fn scan(sizes: Sizes, orientation: u32, state: &[u8]) -> Result<usize, Refused> {
     let rule = Rule::new(sizes, orientation);
     let links = Links::new(sizes);
