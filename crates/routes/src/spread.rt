@@ -118,11 +118,11 @@ pub fn total(out: &[u8], n: usize) -> usize
     requires { ⌜ (n ≤ length (now out)) × (n ≤ 4096) ⌝ }
     ensures { λ r. ⌜ r ≡ sum n (λ k. getD (now (out .entry)) k 0) ⌝ }
 {
-    let mut t: usize = 0;
+    let mut t: u32 = 0;
     let mut i = 0;
     while i < n {
-        t += out[i] as usize;
+        t += out[i] as u32;
         i += 1;
     }
-    t
+    t as usize
 }

@@ -41,6 +41,9 @@ loop-again c =
     let b = c .shared-slice-known .given (l .i) in
     (omega arith, omega (arith, sum-more (l .i) (λ k. getD (now (a .out)) k 0)), omega (arith, b))
 
+cast-result : tie.Need-cast-result Inv-loop μ-loop
+cast-result c = omega arith
+
 returns : tie.Need-returns Inv-loop μ-loop
 returns c =
     let a = c .before .before .args in
@@ -61,4 +64,5 @@ total-spec =
     add-i
     loop-less
     loop-again
+    cast-result
     returns)
