@@ -8,7 +8,8 @@ use native.Mathlib.Nat.{le-of-suc-le-suc}
 use native.Mathlib.Omega.{arith}
 use borrow.Author.Tests.{ltb-true, ltb-false, le-ltb, leb-true, eqb-true, eq-eqb}
 use lib.ListN.{length, getD}
-use lib.Dec.{ltb, leb, eqb}
+use lib.Dec.{T, ltb, leb, eqb}
+use Rattle.mesh.specs.Tools.{any}
 use Rattle.mesh.specs.Mesh.{inRange, InRange, nodes, inside, Inside}
 use Rattle.mesh.specs.Cells.{badCell, firstBad}
 use Rattle.mesh.specs.Answers.{granted, _andThen_, unless}
@@ -19,7 +20,7 @@ use Rattle.mesh.specs.declared.Refusal.{Refusal}
 use Rattle.mesh.specs.declared.Refusal.the-variants.{BadSizes, BadLength, NoRoom, BadCell, BadNumber}
 use Rattle.mesh.specs.declared.Answer.{Answer}
 use Rattle.mesh.specs.declared.Answer.the-variants.{Done, Refused}
-use Rattle.mesh.proofs.Tests.{T-and, T-le, T-lt, holds-true}
+use Rattle.mesh.proofs.Tests.{T-and, T-any, T-le, T-lt, bool-ext, holds-true}
 
 -- ---- the first refusal stands
 
@@ -132,6 +133,20 @@ first-is bad (c ∷ cs) zero h below here = rw (here (omega arith))
 first-is bad (c ∷ cs) (suc i) h below here =
     let rest = first-is (λ k. bad (suc k)) cs i (le-of-suc-le-suc h) (λ k l. below (suc k) (omega arith)) (λ l. here (omega arith)) in
     rw (below 0 (omega arith)) (ap suc rest)
+
+-- whether there is a bad cell
+pub any-first : (bad : ℕ → ℕ → Bool) (l : List ℕ) → any (length l) (λ k. bad k (getD l k 0)) ≡ ltb (firstBad bad l) (length l)
+any-first bad l = bool-ext (any (length l) (λ k. bad k (getD l k 0))) (ltb (firstBad bad l) (length l))
+    (λ t.
+    let (k, h, b) = T-any (length l) (λ k. bad k (getD l k 0)) .0 t in
+    split k h b (ltb k (firstBad bad l)) refl)
+    (λ t.
+    let h = T-lt (firstBad bad l) (length l) .0 t in
+    T-any (length l) (λ k. bad k (getD l k 0)) .1 (firstBad bad l, h, rw (first-at bad l h) tt))
+  where
+    split : (k : ℕ) → k < length l → T (bad k (getD l k 0)) → (b : Bool) → ltb k (firstBad bad l) ≡ b → T (ltb (firstBad bad l) (length l))
+    split k h t true e = absurd (rw (first-below bad l k (ltb-true k (firstBad bad l) e)) at t)
+    split k h t false e = T-lt (firstBad bad l) (length l) .1 (omega (arith, ltb-false k (firstBad bad l) e))
 
 -- ---- the check of a map
 

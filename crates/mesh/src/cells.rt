@@ -4,6 +4,7 @@ use crate::Refusal;
 use crate::Sizes;
 ghost use mathlib.Core.Path.{_≡_};
 ghost use lib.ListN.{length};
+ghost use lib.Dec.{ltb};
 ghost use Rattle.mesh.specs.Tools.{bit};
 ghost use Rattle.mesh.specs.Mesh.{nodes};
 ghost use Rattle.mesh.specs.Cells.{faultyCell, mayPass, mayEnd, badCell, firstBad};
@@ -47,6 +48,18 @@ pub fn bad_cell(s: Sizes, k: usize, cell: u8) -> bool
     cell > CELL_LIMIT
 }
 
+// Is there a bad cell? No branch and no way out: all cells are looked at, many at a time.
+fn any_bad(s: Sizes, cells: &[u8]) -> bool
+    ensures { λ r. ⌜ r ≡ ltb (firstBad (badCell s) (now (cells .entry))) (length (now (cells .entry))) ⌝ }
+{
+    let n = cells.len();
+    let mut bad = false;
+    for k in 0..n {
+        bad = bad_cell(s, k, cells[k]) | bad;
+    }
+    bad
+}
+
 // The number of the first bad cell, z outermost; the count of nodes where there is none.
 fn first_bad(s: Sizes, cells: &[u8]) -> usize
     requires { ⌜ length (now cells) ≡ nodes s ⌝ }
@@ -76,8 +89,8 @@ pub fn check_map(s: Sizes, cells: &[u8]) -> Answer
     if cells.len() != s.nodes() {
         return Answer::Refused(Refusal::BadLength);
     }
-    let k = first_bad(s, cells);
-    if k < cells.len() {
+    if any_bad(s, cells) {
+        let k = first_bad(s, cells);
         return Answer::Refused(Refusal::BadCell(k));
     }
     Answer::Done

@@ -1,16 +1,17 @@
 -- The nodes between two places: every step of a run stays on its axis, and every place of a box in the mesh. Assumes nothing.
-use mathlib.Core.Path.{_≡_, refl}
+use mathlib.Core.Path.{_≡_, refl, ap}
 use mathlib.Core.Bool.{Bool, true, false, cond}
 use Prim.Native.Nat.{ℕ, _+_, _-_, _<_, _≤_}
 use native.Mathlib.Omega.{arith}
 use lib.IntN.{natAbs, subℕ}
 use lib.Dec.{ltb}
 use borrow.Author.Tests.{ltb-true, ltb-false}
-use Rattle.mesh.specs.Mesh.{InRange, Inside}
+use Rattle.mesh.specs.Mesh.{InRange, Inside, number}
+use Rattle.mesh.proofs.Numbers.{number-eq}
 use Rattle.mesh.specs.declared.Sizes.{Sizes}
 use Rattle.mesh.specs.declared.Place.{Place}
 use Rattle.routes.specs.Box.{largest, run, between, gone, reach, far, Within, OnAxis, Held}
-use Rattle.routes.proofs.Differences.{size-is}
+use Rattle.routes.proofs.Differences.{size-is, place-eq}
 use Rattle.routes.specs.declared.Run.{Run}
 use Rattle.routes.specs.declared.Between.{Between}
 
@@ -24,6 +25,14 @@ module _ (r : Run) (n : ℕ) (o : OnAxis r n) where
       split : (d : Bool) → r .down ≡ d → cond d (r .from - i) (r .from + i) < n
       split true e = omega (arith, o .starts)
       split false e = omega (arith, o .high e)
+
+  -- no two steps lead to one coordinate
+  pub gone-same : (i j : ℕ) → i ≤ r .steps → j ≤ r .steps → gone r i ≡ gone r j → i ≡ j
+  gone-same i j hi hj = split (r .down) refl
+    where
+      split : (d : Bool) → r .down ≡ d → cond d (r .from - i) (r .from + i) ≡ cond d (r .from - j) (r .from + j) → i ≡ j
+      split true e q = omega (arith, o .low e)
+      split false e q = omega arith
 
   pub steps-lt : r .steps < n
   steps-lt = split (r .down) refl
@@ -60,3 +69,12 @@ reach-in S g t h w = record {
   y-in = gone-lt (g .y) (S .h) (h .y-on) (t .y) (w .y-le);
   z-in = gone-lt (g .z) (S .d) (h .z-on) (t .z) (w .z-le);
 }
+
+-- two places of a box with one number are as many steps away
+pub node-same : (S : Sizes) (g : Between) → Held S g → (t t′ : Place) → Within g t → Within g t′ → number S (reach g t) ≡ number S (reach g t′) → t ≡ t′
+node-same S g h t t′ w w′ e =
+    let q = number-eq S (reach g t) (reach g t′) (reach-in S g t h w) (reach-in S g t′ h w′) e in
+    place-eq t t′
+    (gone-same (g .x) (S .w) (h .x-on) (t .x) (t′ .x) (w .x-le) (w′ .x-le) (ap (λ (p : Place). p .x) q))
+    (gone-same (g .y) (S .h) (h .y-on) (t .y) (t′ .y) (w .y-le) (w′ .y-le) (ap (λ (p : Place). p .y) q))
+    (gone-same (g .z) (S .d) (h .z-on) (t .z) (t′ .z) (w .z-le) (w′ .z-le) (ap (λ (p : Place). p .z) q))

@@ -10,6 +10,8 @@ pub mod Ends
 pub mod Following
 pub mod Trails
 pub mod Routing
+pub mod Showing
+pub mod Spreading
 pub mod Paths
 pub mod Walks
 pub mod Offered

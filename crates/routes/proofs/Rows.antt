@@ -18,7 +18,7 @@ use Rattle.mesh.proofs.Bits.{bit-and, bit-or}
 use Rattle.mesh.proofs.Numbers.{number-lt}
 use Rattle.mesh.specs.declared.Sizes.{Sizes}
 use Rattle.mesh.specs.declared.Place.{Place}
-use Rattle.routes.specs.Box.{gone, reach, Within, OnAxis, Held}
+use Rattle.routes.specs.Box.{gone, reach, rowRun, Within, OnAxis, Held}
 use Rattle.routes.specs.Sweep.{entry, Seen, Holds, prior, partly, joined, leading, Row, rowFrom, Layer, Layers}
 use Rattle.routes.proofs.Box.{reach-in}
 use Rattle.routes.specs.declared.Run.{Run}
@@ -114,10 +114,6 @@ module _ (seen : Place → Bool) (a b c : ℕ) (off : (a + b) + c ≡ 0 → ⊥)
       split (suc k) e =
           let f : suc k - 1 ≡ k = omega arith in
           rw (e, lt-ltb (suc k - 1) (suc k) (omega arith), f, lt-ltb 0 (suc k) (omega arith)) (or-turn (ltb 0 a && seen (place (a - 1) (suc k) c)) (seen (place a k c)) (ltb 0 c && seen (place a (suc k) (c - 1))))
-
--- the nodes of row b of layer c, as a run of numbers
-abbrev pub rowRun : Sizes → Between → ℕ → ℕ → Run
-rowRun S g b c = record { from = number S (reach g (place 0 b c)); steps = g .x .steps; down = g .x .down }
 
 module _ (S : Sizes) (g : Between) (b c : ℕ) (h : Held S g) where
   pub gone-row : (a : ℕ) → a ≤ g .x .steps → gone (rowRun S g b c) a ≡ number S (reach g (place a b c))

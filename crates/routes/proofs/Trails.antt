@@ -60,8 +60,8 @@ none-past f a true e e′ h = one-more f (along a true) e (rw (up a) (one-more f
 none-past f a false e e′ h = one-more f (along a true) e′ (rw (up a) (one-more f (along a false) e h))
 
 -- three ways, and whether there is one
-summed : (w : Ways) (x y z : Bool) → w ≡ record { x = bit x; y = bit y; z = bit z } → (x || y || z) ≡ not (eqb (w .x + w .y + w .z) 0)
-summed w x y z e = rw e (split x y z)
+pub summed : (w : Ways) (seen : Place → Bool) (t : Place) → w ≡ waysOf seen t → entry seen t ≡ not (eqb (w .x + w .y + w .z) 0)
+summed w seen t e = rw e (split (ltb 0 (t .x) && seen (place (t .x - 1) (t .y) (t .z))) (ltb 0 (t .y) && seen (place (t .x) (t .y - 1) (t .z))) (ltb 0 (t .z) && seen (place (t .x) (t .y) (t .z - 1))))
   where
     split : (x y z : Bool) → (x || y || z) ≡ not (eqb (bit x + bit y + bit z) 0)
     split true true true = refl
@@ -73,7 +73,7 @@ summed w x y z e = rw e (split x y z)
     split false false true = refl
     split false false false = refl
 
-far-zero : (s e : Place) → same (far (between e s)) origin ≡ eqb (hops s e) 0
+pub far-zero : (s e : Place) → same (far (between e s)) origin ≡ eqb (hops s e) 0
 far-zero s e = bool-ext (same (far (between e s)) origin) (eqb (hops s e) 0)
     (λ h.
     let f = same-iff (far (between e s)) origin .0 h in
@@ -199,4 +199,4 @@ module _ (m : Map) (s e : Place) (s-in : Inside (m .sizes) s) (e-in : Inside (m 
         ap (λ (p : Place). leads m e p e) (sym (reach-far e s))
         ∙ leads-entry m s e s-in e-in ends (far g) w
         ∙ ap (λ (b : Bool). b || entry (ahead m s e s-in e-in) (far g)) (far-zero s e)
-        ∙ ap (λ (b : Bool). eqb (hops s e) 0 || b) (summed (waysIn table (far g)) (seen (far g) X) (seen (far g) Y) (seen (far g) Z) W)
+        ∙ ap (λ (b : Bool). eqb (hops s e) 0 || b) (summed (waysIn table (far g)) (ahead m s e s-in e-in) (far g) W)

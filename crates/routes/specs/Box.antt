@@ -5,7 +5,7 @@ use mathlib.Core.Bool.{true, false, cond}
 use Prim.Native.Nat.{ℕ, _+_, _-_, _<_, _≤_}
 use lib.IntN.{natAbs, subℕ}
 use lib.Dec.{ltb}
-use Rattle.mesh.specs.Mesh.{sizes, place}
+use Rattle.mesh.specs.Mesh.{sizes, place, number}
 use Rattle.mesh.specs.declared.Sizes.{Sizes}
 use Rattle.mesh.specs.declared.Place.{Place}
 use Rattle.routes.specs.declared.Run.{Run}
@@ -38,6 +38,10 @@ pub record Within (g : Between) (t : Place) : Type 0 where
   pub x-le : t .x ≤ g .x .steps
   pub y-le : t .y ≤ g .y .steps
   pub z-le : t .z ≤ g .z .steps
+
+-- the nodes of row b of layer c, as a run of numbers
+abbrev pub rowRun : Sizes → Between → ℕ → ℕ → Run
+rowRun S g b c = record { from = number S (reach g (place 0 b c)); steps = g .x .steps; down = g .x .down }
 
 -- a run that stays on an axis of n; a box that stays in the mesh
 pub record OnAxis (r : Run) (n : ℕ) : Type 0 where

@@ -5,4 +5,5 @@ pub mod Entries
 pub mod Box
 pub mod Sweep
 pub mod Table
+pub mod Shown
 pub mod Computed

@@ -8,7 +8,7 @@ use mesh::Sizes;
 ghost use mathlib.Core.Path.{_≡_};
 ghost use Prim.Native.Nat.{_≤_, _<_};
 ghost use Rattle.mesh.specs.Mesh.{InRange, Inside, place, nodes, number};
-ghost use Rattle.routes.specs.Box.{largest, run, between, gone, reach, far, OnAxis, Held, Within};
+ghost use Rattle.routes.specs.Box.{largest, run, between, gone, reach, far, rowRun, OnAxis, Held, Within};
 
 // One axis, from one coordinate to another.
 pub fn run(from: usize, to: usize) -> Run
@@ -57,6 +57,19 @@ impl Between {
             x: self.x.steps,
             y: self.y.steps,
             z: self.z.steps,
+        }
+    }
+
+    // The nodes of the row after b and c steps.
+    pub fn row(self, s: Sizes, b: usize, c: usize) -> Run
+        requires { ⌜ InRange s × Held s self × Within self (place 0 b c) ⌝ }
+        ensures { λ r. ⌜ r ≡ rowRun s self b c ⌝ }
+    {
+        let x = self.x;
+        Run {
+            from: self.node(s, 0, b, c),
+            steps: x.steps,
+            down: x.down,
         }
     }
 

@@ -3,6 +3,8 @@ use crate::Verdict;
 use crate::follow::write_route;
 use crate::offers::offered;
 use crate::signed::hops;
+use crate::spread::total;
+use crate::spread::write_reached;
 use mesh::Answer;
 use mesh::Numbered;
 use mesh::Refusal;
@@ -11,7 +13,7 @@ use mesh::cells::check_map;
 use mesh::cells::may_end;
 ghost use mathlib.Core.Path.{_≡_};
 ghost use lib.ListN.{length};
-ghost use Rattle.routes.specs.Entries.{checkEnds, verdictAnswer, routeAnswer, routeOut};
+ghost use Rattle.routes.specs.Entries.{checkEnds, verdictAnswer, routeAnswer, routeOut, reachedAnswer, reachedOut};
 
 // Refusals 1, 2, 4, 5 and 9.
 fn check_ends(s: Sizes, cells: &[u8], start: usize, end: usize) -> Answer
@@ -66,4 +68,22 @@ pub fn route(s: Sizes, cells: &[u8], start: usize, end: usize, out: &mut [u16]) 
         return Numbered::NotNumbered(r);
     }
     write_route(s, cells, s.place(start), s.place(end), out)
+}
+
+// One byte for each node at the front of out, 1 where preferred steps towards the end lead from the start to it, and how many they are:
+// refusals 1, 2, 4, 5, 9 and 3.
+pub fn reached(s: Sizes, cells: &[u8], start: usize, end: usize, out: &mut [u8]) -> Numbered
+    ensures { λ r. ⌜ r ≡ reachedAnswer s (now (cells .entry)) start end (length (now (out .entry))) ⌝ }
+    ensures { λ _. ⌜ now (out .exit) ≡ reachedOut s (now (cells .entry)) start end (now (out .entry)) ⌝ }
+{
+    let a = check_ends(s, cells, start, end);
+    if let Answer::Refused(r) = a {
+        return Numbered::NotNumbered(r);
+    }
+    let n = s.nodes();
+    if out.len() < n {
+        return Numbered::NotNumbered(Refusal::NoRoom);
+    }
+    write_reached(s, cells, s.place(start), s.place(end), out);
+    Numbered::Number(total(out, n))
 }

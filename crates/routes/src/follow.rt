@@ -3,6 +3,7 @@
 use crate::Between;
 use crate::Ways;
 use crate::boxes::between;
+use crate::offers::leads_on;
 use crate::signed::hops;
 use crate::sweep::entered;
 use crate::sweep::seeded;
@@ -12,10 +13,8 @@ use mesh::Place;
 use mesh::Refusal;
 use mesh::Sizes;
 ghost use mathlib.Core.Path.{_≡_};
-ghost use mathlib.Core.Bool.{not, _||_};
 ghost use Prim.Native.Nat.{_+_, _*_, _≤_, _<_};
 ghost use lib.ListN.{length, getD};
-ghost use lib.Dec.{eqb};
 ghost use Rattle.mesh.specs.Mesh.{InRange, Inside, number};
 ghost use Rattle.mesh.specs.Cells.{mapOf};
 ghost use Rattle.mesh.specs.Fill.{Filled};
@@ -113,17 +112,6 @@ fn follow(s: Sizes, g: Between, table: &[u8], n: usize, out: &mut [u16])
         t = step_nearer(table, t);
         i += 1;
     }
-}
-
-// Does a path lead on, h hops from the end?
-fn leads_on(h: usize, w: Ways) -> bool
-    requires { ⌜ (w .x ≤ 1) × (w .y ≤ 1) × (w .z ≤ 1) ⌝ }
-    ensures { λ r. ⌜ r ≡ (eqb h 0 || not (eqb (w .x + w .y + w .z) 0)) ⌝ }
-{
-    if h == 0 {
-        return true;
-    }
-    w.x + w.y + w.z != 0
 }
 
 // The route from p to e: refusals 10 and 3.

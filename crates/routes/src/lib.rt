@@ -6,6 +6,7 @@ pub mod entries;
 pub mod follow;
 pub mod offers;
 pub mod signed;
+pub mod spread;
 pub mod sweep;
 
 // The direction that a difference prefers on its axis, or none.

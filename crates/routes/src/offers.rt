@@ -12,7 +12,9 @@ use crate::sweep::sweep_layer;
 use mesh::Place;
 use mesh::Sizes;
 ghost use mathlib.Core.Path.{_≡_};
-ghost use Prim.Native.Nat.{_≤_, _<_};
+ghost use mathlib.Core.Bool.{not, _||_};
+ghost use Prim.Native.Nat.{_+_, _≤_, _<_};
+ghost use lib.Dec.{eqb};
 ghost use lib.Signed.{mag};
 ghost use Rattle.mesh.specs.Cells.{mapOf};
 ghost use Rattle.routes.specs.Differences.{wanted};
@@ -38,6 +40,17 @@ pub fn ways(s: Sizes, cells: &[u8], g: Between) -> Ways
         y: entered(&layer, k, 16, b),
         z,
     }
+}
+
+// Does a path lead between two corners, h hops apart, with these ways into the second?
+pub fn leads_on(h: usize, w: Ways) -> bool
+    requires { ⌜ (w .x ≤ 1) × (w .y ≤ 1) × (w .z ≤ 1) ⌝ }
+    ensures { λ r. ⌜ r ≡ (eqb h 0 || not (eqb (w .x + w .y + w .z) 0)) ⌝ }
+{
+    if h == 0 {
+        return true;
+    }
+    w.x + w.y + w.z != 0
 }
 
 // The bit of the direction that a difference prefers, where the way is seen.

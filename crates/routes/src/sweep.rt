@@ -63,13 +63,7 @@ fn line(s: Sizes, cells: &[u8], g: Between, b: usize, c: usize, layer: &mut [u8]
     requires { ⌜ Ready s (now cells) g × (length (now layer) ≡ 256) × (b ≤ g .y .steps) × (c ≤ g .z .steps) ⌝ }
     ensures { λ _. ⌜ Layer (mapOf s (now (cells .entry))) g c b (b + 1) (now (layer .entry)) (now (layer .exit)) ⌝ }
 {
-    let x = g.x;
-    let r = Run {
-        from: g.node(s, 0, b, c),
-        steps: x.steps,
-        down: x.down,
-    };
-    row(cells, layer, r, b, row_from(b, c));
+    row(cells, layer, g.row(s, b, c), b, row_from(b, c));
 }
 
 // Layer c, over the layer before it.

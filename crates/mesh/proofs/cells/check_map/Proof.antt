@@ -2,7 +2,7 @@
 use mathlib.Core.Path.{_≡_, _∙_, sym, ap}
 use mathlib.Core.Bool.{true}
 use borrow.Author.Needs.{needs}
-use borrow.Author.Tests.{not-true, not-false, eq-eqb, ne-eqb, lt-ltb, le-ltb}
+use borrow.Author.Tests.{not-true, not-false, eq-eqb, ne-eqb}
 use denote.Ref.{now}
 use lib.ListN.{length}
 use lib.Dec.{eqb}
@@ -37,22 +37,24 @@ returns-2 c =
     let a = past .before .before .before .args in
     map-2 (a .s) (now (a .cells)) (sized past) (ne-eqb _ _ (rw (c .before .nodes .ensures .0) at (c .if2 .taken)))
 
+any-bad-requires : tie.Need-any-bad-requires
+any-bad-requires c κs = search needs
+
 first-bad-requires : tie.Need-first-bad-requires
-first-bad-requires c κs = c .if2 .left ∙ c .before .nodes .ensures .0
+first-bad-requires c κs = let past = c .before .before in past .if2 .left ∙ past .before .nodes .ensures .0
 
 returns-3 : tie.Need-returns-3
 returns-3 c =
-    let past = c .before .before in
+    let past = c .before .before .before in
     let a = past .before .before .before .before .before .args in
-    let e = c .before .first-bad .ensures in
-    ap (λ k. Refused (BadCell k)) e ∙ map-4 (a .s) (now (a .cells)) (sized (past .before .before)) (whole past) (lt-ltb _ _ (rw e at (c .if3 .taken)))
+    ap (λ k. Refused (BadCell k)) (c .first-bad .ensures)
+    ∙ map-4 (a .s) (now (a .cells)) (sized (past .before .before)) (whole past) (sym (c .before .before .any-bad .ensures) ∙ c .before .if3 .taken)
 
 returns-4 : tie.Need-returns-4
 returns-4 c =
     let past = c .before .before in
     let a = past .before .before .before .before .before .args in
-    let e = c .before .first-bad .ensures in
-    map-0 (a .s) (now (a .cells)) (sized (past .before .before)) (whole past) (le-ltb _ _ (rw e at (c .if3 .left)))
+    map-0 (a .s) (now (a .cells)) (sized (past .before .before)) (whole past) (sym (c .before .any-bad .ensures) ∙ c .if3 .left)
 
 pub check-map-spec : {M : Type 1} → statement M
 check-map-spec =
@@ -62,6 +64,7 @@ check-map-spec =
     returns
     nodes-requires
     returns-2
+    any-bad-requires
     first-bad-requires
     returns-3
     returns-4)

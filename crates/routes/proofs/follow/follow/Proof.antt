@@ -10,11 +10,13 @@ use Rattle.mesh.specs.Mesh.{number}
 use Rattle.mesh.specs.Fill.{Filled}
 use Rattle.mesh.proofs.Fill.{fill-none, fill-more}
 use Rattle.mesh.proofs.Numbers.{nodes-le}
+use Rattle.mesh.specs.declared.Sizes.{Sizes}
 use Rattle.mesh.specs.declared.Place.{Place}
 use Rattle.routes.specs.Box.{reach, Within}
 use Rattle.routes.specs.Table.{nearest, trail}
 use Rattle.routes.proofs.Box.{far-in}
 use Rattle.routes.proofs.Following.{trail-within, within-largest}
+use Rattle.routes.specs.declared.Between.{Between}
 use Rattle.routes.proofs.follow.follow.Statement.{statement}
 use Rattle.routes.proofs.follow.follow.Tie as tie
 
@@ -23,6 +25,12 @@ Inv-loop s g table n out₀ t₀ i₀ out t i = (i ≤ n) × (t ≡ trail g tabl
 
 abbrev μ-loop : tie.MeasureT-loop
 μ-loop s g table n out₀ t₀ i₀ out t i = n - i
+
+trail-next : (g : Between) (table : List ℕ) (i : ℕ) (t u : Place) → t ≡ trail g table i → u ≡ nearest table t → u ≡ trail g table (i + 1)
+trail-next g table i t u e f = rw (add-one i) (f ∙ ap (nearest table) e)
+
+node-at : (S : Sizes) (g : Between) (t u : Place) (k : ℕ) → k ≡ number S (reach g t) → t ≡ u → k ≡ number S (reach g u)
+node-at S g t u k e f = e ∙ ap (λ (t : Place). number S (reach g t)) f
 
 -- the place is in the box
 here : (c : tie.In-loop Inv-loop μ-loop) → Within (c .before .before .before .before .before .args .g) (c .before .loop .t)
@@ -67,9 +75,9 @@ loop-again c =
     let n = c .before .node in
     let a = c .before .before .before .before .before .before .before .args in (
       omega arith,
-      c .step-nearer .ensures ∙ ap (nearest (now (a .table))) (l .inv .1) ∙ sym (ap (trail (a .g) (now (a .table))) (add-one (l .i))),
+      trail-next (a .g) (now (a .table)) (l .i) (l .t) (c .step-nearer .result) (l .inv .1) (c .step-nearer .ensures),
       fill-more _ _ _ _ _ _ _ (l .inv .2) (omega arith) (λ i h q. omega arith) refl
-          (n .ensures .0 ∙ ap (λ (t : Place). number (a .s) (reach (a .g) t)) (l .inv .1)),
+          (node-at (a .s) (a .g) (l .t) (trail (a .g) (now (a .table)) (l .i)) (n .result) (n .ensures .0) (l .inv .1)),
     )
 
 same-length : tie.Need-same-length Inv-loop μ-loop

@@ -1,8 +1,8 @@
--- `routes::follow::leads_on` meets its contract. Assumes nothing.
+-- `routes::offers::leads_on` meets its contract. Assumes nothing.
 use borrow.Author.Needs.{needs}
 use borrow.Author.Tests.{eq-eqb, ne-eqb}
-use Rattle.routes.proofs.follow.leads_on.Statement.{statement}
-use Rattle.routes.proofs.follow.leads_on.Tie as tie
+use Rattle.routes.proofs.offers.leads_on.Statement.{statement}
+use Rattle.routes.proofs.offers.leads_on.Tie as tie
 
 returns : tie.Need-returns
 returns c = rw (eq-eqb _ _ (c .if1 .taken))

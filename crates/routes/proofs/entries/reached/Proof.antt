@@ -1,0 +1,95 @@
+-- `routes::entries::reached` meets its contract: the ends and the room are checked, and then the bytes are written and counted.
+-- Assumes nothing.
+use mathlib.Core.Path.{_≡_, sym, _∙_}
+use Prim.Native.Nat.{_≤_}
+use native.Mathlib.Omega.{arith}
+use borrow.Author.Needs.{needs}
+use denote.Ref.{now}
+use lib.ListN.{length}
+use Rattle.mesh.specs.Mesh.{nodes, placeOf}
+use Rattle.mesh.specs.declared.Answer.the-variants.{Done}
+use Rattle.routes.specs.Entries.{checkEnds}
+use Rattle.routes.specs.Sweep.{Ends}
+use Rattle.routes.proofs.Ends.{ends-granted}
+use Rattle.routes.proofs.Spreading.{reached-refused, reached-3, reached-0}
+use Rattle.routes.proofs.entries.reached.Statement.{statement}
+use Rattle.routes.proofs.entries.reached.Tie as tie
+
+-- past the checks
+good : (c : tie.After-enum-told) →
+    let a = c .before .before .before .before .before .args in
+    checkEnds (a .s) (now (a .cells)) (a .start) (a .end) ≡ Done
+good c = sym (c .before .before .check-ends .ensures) ∙ c .enum-told .given .1
+
+ends : (c : tie.After-enum-told) →
+    let a = c .before .before .before .before .before .args in
+    Ends (a .s) (now (a .cells)) (placeOf (a .s) (a .start)) (placeOf (a .s) (a .end))
+ends c = let a = c .before .before .before .before .before .args in ends-granted (a .s) (now (a .cells)) (a .start) (a .end) (good c)
+
+room : (c : tie.Else1) → let a = c .before .before .before .before .before .before .before .args in nodes (a .s) ≤ length (now (a .out))
+room c = rw (c .before .nodes .ensures .0) at (c .if1 .left)
+
+check-ends-requires : tie.Need-check-ends-requires
+check-ends-requires c κs = search needs
+
+enum-known-a : tie.Need-enum-known-a
+enum-known-a c = search needs
+
+returns : tie.Need-returns
+returns c =
+    let a = c .before .before .before .before .before .before .args in
+    reached-refused (a .s) (now (a .cells)) (a .start) (a .end) (now (a .out)) (c .before .a .given .0 .0)
+    (sym (c .before .before .before .check-ends .ensures) ∙ c .before .a .given .1)
+
+enum-told : tie.Need-enum-told
+enum-told c = search needs
+
+nodes-requires : tie.Need-nodes-requires
+nodes-requires c κs = ends c .sized
+
+returns-2 : tie.Need-returns-2
+returns-2 c =
+    let a = c .before .before .before .before .before .before .before .args in
+    reached-3 (a .s) (now (a .cells)) (a .start) (a .end) (now (a .out)) (good (c .before .before)) (rw (c .before .nodes .ensures .0) at (c .if1 .taken))
+
+place-requires : tie.Need-place-requires
+place-requires c κs = ends (c .before .before) .sized
+
+place-requires-2 : tie.Need-place-requires-2
+place-requires-2 c κs = ends (c .before .before .before) .sized
+
+write-reached-requires : tie.Need-write-reached-requires
+write-reached-requires c κs = (rw (c .before .before .place .ensures, c .before .place2 .ensures) (ends (c .before .before .before .before .before)), room (c .before .before .before))
+
+total-requires : tie.Need-total-requires
+total-requires c κs = search needs
+
+same-length : tie.Need-same-length
+same-length c = search needs
+
+returns-3 : tie.Need-returns-3
+returns-3 c =
+    let w = c .before .before .before .before in
+    let i = w .before .before .before .before in
+    let k = i .before .before in
+    let a = k .before .before .before .before .before .args in
+    reached-0 (a .s) (now (a .cells)) (a .start) (a .end) (now (a .out)) (good k) (room i) (c .total .result) (w .write-reached .last .1 .1 .1 .1 .0)
+    (rw (← w .before .before .before .place .ensures, ← w .before .before .place2 .ensures) (w .write-reached .ensures))
+    (rw (← i .before .nodes .ensures .0) (c .total .ensures))
+
+pub reached-spec : {M : Type 1} → statement M
+reached-spec =
+    tie.close
+    (tie.spec
+    check-ends-requires
+    enum-known-a
+    returns
+    enum-told
+    nodes-requires
+    returns-2
+    place-requires
+    place-requires-2
+    write-reached-requires
+    total-requires
+    same-length
+    returns-3)

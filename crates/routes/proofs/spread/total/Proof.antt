@@ -1,0 +1,68 @@
+-- `routes::spread::total` meets its contract: a byte is at most 255. Assumes nothing.
+use mathlib.Core.Path.{_≡_, refl, sym, _∙_, ap, subst}
+use Prim.Native.Nat.{ℕ, _+_, _-_, _*_, _≤_}
+use native.Mathlib.Omega.{arith}
+use denote.Ref.{now}
+use lib.ListN.{getD}
+use Rattle.mesh.specs.Tools.{sum}
+use Rattle.mesh.proofs.Tables.{sum-more}
+use Rattle.routes.proofs.spread.total.Statement.{statement}
+use Rattle.routes.proofs.spread.total.Tie as tie
+
+abbrev Inv-loop : tie.InvT-loop
+Inv-loop out n t₀ i₀ t i = (i ≤ n) × (t ≡ sum i (λ k. getD out k 0)) × (t ≤ 255 * i)
+
+abbrev μ-loop : tie.MeasureT-loop
+μ-loop out n t₀ i₀ t i = n - i
+
+loop-holds : tie.Need-loop-holds Inv-loop μ-loop
+unfolding sum
+loop-holds c = (omega arith, refl, omega arith)
+
+shared-slice-read-t : tie.Need-shared-slice-read-t Inv-loop μ-loop
+shared-slice-read-t c = omega arith
+
+cast-t : tie.Need-cast-t Inv-loop μ-loop
+cast-t c = omega (arith, c .shared-slice-known .given (c .before .before .loop .i))
+
+add-t : tie.Need-add-t Inv-loop μ-loop
+add-t c = omega (arith, c .shared-slice-known .given (c .before .before .loop .i))
+
+add-i : tie.Need-add-i Inv-loop μ-loop
+add-i c = omega arith
+
+loop-less : tie.Need-loop-less Inv-loop μ-loop
+loop-less c = omega arith
+
+loop-again : tie.Need-loop-again Inv-loop μ-loop
+loop-again c =
+    let l = c .before .before .loop in
+    let a = c .before .before .before .args in
+    let b = c .shared-slice-known .given (l .i) in
+    (omega arith, omega (arith, sum-more (l .i) (λ k. getD (now (a .out)) k 0)), omega (arith, b))
+
+cast-result : tie.Need-cast-result Inv-loop μ-loop
+cast-result c = omega arith
+
+returns : tie.Need-returns Inv-loop μ-loop
+returns c =
+    let a = c .before .before .args in
+    let l = c .before .loop in
+    let e : l .i ≡ a .n = omega arith in
+    l .inv .1 ∙ ap (λ (n : ℕ). sum n (λ k. getD (now (a .out)) k 0)) e
+
+pub total-spec : {M : Type 1} → statement M
+total-spec =
+    tie.close
+    (tie.spec
+    Inv-loop
+    μ-loop
+    loop-holds
+    shared-slice-read-t
+    cast-t
+    add-t
+    add-i
+    loop-less
+    loop-again
+    cast-result
+    returns)
