@@ -4,6 +4,7 @@ pub mod Refusals
 pub mod Reasons
 pub mod Bytes
 pub mod Reading
+pub mod Read
 pub mod Writing
 pub mod Promise
 pub mod Impostors

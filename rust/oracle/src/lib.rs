@@ -5,6 +5,7 @@
 
 pub mod components;
 pub mod field;
+pub mod listing;
 pub mod map;
 pub mod mapfile;
 pub mod marks;

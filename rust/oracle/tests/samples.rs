@@ -1,6 +1,7 @@
 //! "Samples with numbers": all twelve of the scope paper, and the report on map P.
 use oracle::components::{components, Component};
 use oracle::field::{fresh, hear, outstanding};
+use oracle::listing::listing;
 use oracle::mapfile::{read_map, write_map};
 use oracle::marks::marks;
 use oracle::report::report;
@@ -121,6 +122,12 @@ fn sample_12() {
     assert_eq!(counts, [1, 9]);
 }
 
+/// What the proved program `samplerun` is held to is this program's text.
+#[test]
+fn the_run_of_sample_12() {
+    assert_eq!(listing(include_bytes!("../../../crates/samplerun/stdin")), include_str!("../../../crates/samplerun/stdout"));
+}
+
 #[test]
 fn the_file_of_p_and_its_report() {
     let mut file = vec![9; 40];
@@ -137,4 +144,15 @@ octant 3 useless 1 cannot-reach 1 components 1
 ";
     assert_eq!(report(&file[..37]), text);
     assert_eq!(report(&file), "refused 11\n");
+}
+
+/// The maps for people are those that the proved programs are run on.
+#[test]
+fn the_maps() {
+    let file = |path: &str| std::fs::read(format!("../../{path}")).unwrap_or_else(|e| panic!("{path}: {e}"));
+    for name in ["p", "sample10", "sample12", "case11", "large"] {
+        assert!(file(&format!("maps/{name}.map")) == file(&format!("crates/meshreports/data/{name}.map")), "{name}");
+    }
+    assert!(file("maps/p.map") == file("crates/meshreport/stdin"));
+    assert!(file("maps/sample12.map") == file("crates/samplerun/stdin"));
 }

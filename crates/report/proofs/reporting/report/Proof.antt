@@ -1,5 +1,5 @@
 -- `report::reporting::report` meets its contract: what was read is in order, and is the map that is reported on. Assumes nothing.
-use mathlib.Core.Path.{_≡_, sym, ap, _∙_, subst}
+use mathlib.Core.Path.{_≡_, sym, ap, _∙_}
 use mathlib.Core.List.{List}
 use Prim.Native.Nat.{ℕ}
 use native.Mathlib.Omega.{arith}
@@ -13,34 +13,19 @@ use Rattle.mesh.specs.declared.Sizes.{Sizes}
 use Rattle.mesh.specs.declared.Refusal.{Refusal}
 use Rattle.mesh.specs.declared.Answer.the-variants.{Done}
 use Rattle.mesh.proofs.Answers.{map-granted}
-use Rattle.mapfile.specs.Format.{sizesIn, cellsIn}
-use Rattle.mapfile.specs.Entry.{readCheck, readAnswer, readOut}
+use Rattle.mapfile.specs.Format.{cellsIn}
+use Rattle.mapfile.specs.Entry.{readAnswer}
 use Rattle.mapfile.specs.declared.MapRead.{MapRead}
 use Rattle.mapfile.specs.declared.MapRead.the-variants.{Read, NotRead}
-use Rattle.mapfile.proofs.Refusals.{read-ordered, read-front}
-use Rattle.mapfile.proofs.Reading.{read-as}
+use Rattle.mapfile.proofs.Read.{in-order, in-range, in-front}
 use Rattle.text.proofs.Saying.{said-as}
 use Rattle.report.specs.Report.{mapReport, refusalLine, reportOn, report}
 use Rattle.report.proofs.reporting.report.Statement.{statement}
 use Rattle.report.proofs.reporting.report.Tie as tie
 
--- a file of which S was read, into room for the largest mesh
-module _ (file : List ℕ) (S : Sizes) (is : readAnswer file 4096 ≡ Read S) where
-  granted : (readCheck file 4096 ≡ Done) × (sizesIn file ≡ S)
-  unfolding readAnswer
-  granted = read-as (readCheck file 4096) (sizesIn file) S .0 is
-
-  in-order : checkMap S (cellsIn file) ≡ Done
-  in-order = subst (λ (Z : Sizes). checkMap Z (cellsIn file) ≡ Done) (granted .1) (read-ordered file 4096 (granted .0))
-
-  front : (old : List ℕ) → length old ≡ 4096 → take (nodes S) (readOut file old) ≡ cellsIn file
-  front old e =
-      let done : readCheck file (length old) ≡ Done = ap (readCheck file) e ∙ granted .0 in
-      subst (λ (Z : Sizes). take (nodes Z) (readOut file old) ≡ cellsIn file) (granted .1) (read-front file old done)
-
-  map-text : mapReport (mapOf S (cellsIn file)) ≡ report file
-  unfolding report
-  map-text = sym (ap (λ (a : MapRead). reportOn a (cellsIn file)) is)
+map-text : (file : List ℕ) (S : Sizes) → readAnswer file 4096 ≡ Read S → mapReport (mapOf S (cellsIn file)) ≡ report file
+unfolding report
+map-text file S is = sym (ap (λ (a : MapRead). reportOn a (cellsIn file)) is)
 
 refusal-text : (file : List ℕ) (r : Refusal) → readAnswer file 4096 ≡ NotRead r → refusalLine (refusalNo r) ≡ report file
 unfolding report
@@ -67,7 +52,7 @@ cells-are c =
     let file = now (made .before .before .before .args .file) in
     ap (λ (n : ℕ). take n (read .read-map .last .1 .0)) (c .nodes .ensures .0)
     ∙ ap (take (nodes (told .before .s .given .0 .0))) (read .read-map .ensures .1)
-    ∙ front file (told .before .s .given .0 .0) (answer-is told) (made .blank-cells .result) (made .blank-cells .ensures)
+    ∙ in-front file 4096 (told .before .s .given .0 .0) (answer-is told) (made .blank-cells .result) (made .blank-cells .ensures)
 
 blank-cells-requires : tie.Need-blank-cells-requires
 blank-cells-requires c κs = search needs
@@ -85,7 +70,7 @@ nodes-requires : tie.Need-nodes-requires
 nodes-requires c κs =
     let file = now (c .before .before .before .before .before .before .before .before .before .args .file) in
     let S = c .before .s .given .0 .0 in
-    map-granted S (cellsIn file) (in-order file S (answer-is c)) .sized
+    in-range file 4096 S (answer-is c)
 
 array-share-prefix-cells : tie.Need-array-share-prefix-cells
 array-share-prefix-cells c = search needs
@@ -95,7 +80,7 @@ slice-aggregate-map-report c =
     let told = c .before .before in
     let file = now (told .before .before .before .before .before .before .before .before .before .args .file) in
     let S = told .before .s .given .0 .0 in
-    c .before .nodes .ensures .0 ∙ sym (ap length (cells-are (c .before)) ∙ map-granted S (cellsIn file) (in-order file S (answer-is told)) .whole)
+    c .before .nodes .ensures .0 ∙ sym (ap length (cells-are (c .before)) ∙ map-granted S (cellsIn file) (in-order file 4096 S (answer-is told)) .whole)
 
 map-report-requires : tie.Need-map-report-requires
 map-report-requires c κs =
@@ -103,7 +88,7 @@ map-report-requires c κs =
     let told = n .before in
     let s = told .before .before .before .before .before .before .before .before .before in
     let S = told .before .s .given .0 .0 in
-    (ap (checkMap S) (cells-are n) ∙ in-order (now (s .args .file)) S (answer-is told), s .pre)
+    (ap (checkMap S) (cells-are n) ∙ in-order (now (s .args .file)) 4096 S (answer-is told), s .pre)
 
 enum-known-r : tie.Need-enum-known-r
 enum-known-r c = search needs

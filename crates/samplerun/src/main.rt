@@ -1,0 +1,76 @@
+// Runs the sample that is too large for the table of samples: the map on standard input, in orientation 0. Prints each unsafe node with its mark
+// byte and its component's number, then each component's record. What it must print was written by the independent search program.
+use components::Component;
+use components::entry::compute;
+use libc::STDIN_FILENO;
+use libc::STDOUT_FILENO;
+use mapfile::MapRead;
+use mapfile::reader::read_map;
+use marks::entry::marks;
+use mesh::Placed;
+use mesh::Sizes;
+use mesh::entries::place_of;
+
+fn say(word: &[u8], n: usize) {
+    io::write_all(STDOUT_FILENO, word);
+    io::print_decimal(STDOUT_FILENO, n as u64);
+}
+
+fn say_node(s: Sizes, k: usize, mark: u8, component: u16) {
+    if let Placed::Found(p) = place_of(s, k) {
+        say(b"place ", p.x);
+        say(b" ", p.y);
+        say(b" ", p.z);
+        say(b" mark ", mark as usize);
+        say(b" component ", component as usize);
+        io::write_all(STDOUT_FILENO, b"\n");
+    }
+}
+
+fn say_nodes(s: Sizes, marked: &[u8], table: &[u16]) {
+    for k in 0..marked.len() {
+        if marked[k] != 0 && k < table.len() {
+            say_node(s, k, marked[k], table[k]);
+        }
+    }
+}
+
+fn say_component(i: usize, c: Component) {
+    say(b"component ", i);
+    say(b" nodes ", c.count as usize);
+    say(b" from ", c.x0 as usize);
+    say(b" ", c.y0 as usize);
+    say(b" ", c.z0 as usize);
+    say(b" to ", c.x1 as usize);
+    say(b" ", c.y1 as usize);
+    say(b" ", c.z1 as usize);
+    io::write_all(STDOUT_FILENO, b"\n");
+}
+
+fn say_components(records: [Component; 1024], count: usize) {
+    for i in 0..1024 {
+        if i < count {
+            say_component(i + 1, records[i]);
+        }
+    }
+}
+
+fn say_map(s: Sizes, cells: &[u8]) {
+    let mut marked = [0u8; 4096];
+    let mut table = [0u16; 4096];
+    marks(s, cells, 0, &mut marked);
+    let found = compute(s, cells, 0, &mut table, 4096);
+    say_nodes(s, &marked, &table);
+    let records = found.records;
+    say_components(records, found.count);
+}
+
+fn main() {
+    let mut file = io::large_buffer();
+    let n = io::read_full(STDIN_FILENO, &mut file);
+    let mut cells = [0u8; 4096];
+    if let MapRead::Read(s) = read_map(&file[..n], &mut cells) {
+        let n = s.nodes();
+        say_map(s, &cells[..n]);
+    }
+}
