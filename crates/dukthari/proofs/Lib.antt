@@ -1,3 +1,4 @@
 pub mod Impostors
 pub mod Small
 pub mod Groups
+pub mod Tight
