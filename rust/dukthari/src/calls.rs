@@ -1,7 +1,7 @@
-//! The C calls. Each takes every number and every length: its contract has no `requires`, and it touches no memory but its answer and the
-//! slices lent to it. That these do not overlap is Rust's own rule.
+//! The C calls, and all that is `unsafe` in this crate. Each takes every number and every length: its contract has no `requires`, and it
+//! touches no memory but its answer and the slices lent to it. That these do not overlap is Rust's own rule.
 use crate::answers::{Counted, Done, MapAnswer, NodeAnswer, PlaceAnswer, StepAnswer, VerdictAnswer};
-use crate::{Component, Place, Refusal, Sizes, Verdict};
+use crate::{Component, Place, Sizes};
 
 /// Declares the C functions that are linked. Another cannot be asked.
 macro_rules! declare {
@@ -94,79 +94,4 @@ pub fn read_map(file: &[u8], cells: &mut [u8]) -> MapAnswer {
 
 pub fn write_map(s: Sizes, cells: &[u8], out: &mut [u8]) -> Counted {
     unsafe { dk_write_map(s.w, s.h, s.d, cells.as_ptr(), cells.len(), out.as_mut_ptr(), out.len()) }
-}
-
-impl Sizes {
-    /// The number of the node at a place. Refusals: 1, 5.
-    pub fn number(self, at: Place) -> Result<u32, Refusal> {
-        number(self, at).result()
-    }
-
-    /// The place of a node. Refusals: 1, 5.
-    pub fn place(self, node: u32) -> Result<Place, Refusal> {
-        place(self, node).result()
-    }
-
-    /// The next place in a direction, 0 to 5 for +X, -X, +Y, -Y, +Z, -Z; `None` where the mesh ends. Refusals: 1, 5.
-    pub fn step(self, from: Place, direction: u32) -> Result<Option<Place>, Refusal> {
-        step(self, from, direction).result()
-    }
-
-    /// The mark byte of each node, written to the front of `out`: 0 none, 1 faulty, 2 useless, 4 can't-reach, 6 both. Refusals: 1, 2, 4, 5, 3.
-    pub fn marks(self, orientation: u32, cells: &[u8], out: &mut [u8]) -> Result<(), Refusal> {
-        marks(self, orientation, cells, out).result()
-    }
-
-    /// The number of components; for each node the number of its component, 0 for a safe one, to the front of `table`, and a record for
-    /// each component to the front of `row`. Refusals: 1, 2, 4, 5, 3.
-    pub fn components(self, orientation: u32, cells: &[u8], table: &mut [u16], row: &mut [Component]) -> Result<usize, Refusal> {
-        components(self, orientation, cells, table, row).result()
-    }
-
-    /// Whether a path leads from start to end: its hops, and in which directions one begins. Refusals: 1, 2, 4, 5, 9, 10.
-    pub fn verdict(self, start: u32, end: u32, cells: &[u8]) -> Result<Verdict, Refusal> {
-        verdict(self, start, end, cells).result()
-    }
-
-    /// The nodes of the path that takes the lowest offered direction at each node, to the front of `out`; how many they are, at most 46.
-    /// Refusals: 1, 2, 4, 5, 9, 10, 3.
-    pub fn route(self, start: u32, end: u32, cells: &[u8], out: &mut [u16]) -> Result<usize, Refusal> {
-        route(self, start, end, cells, out).result()
-    }
-
-    /// For each node 1 where a path towards the end leads from the start to it, else 0, to the front of `out`; how many are 1.
-    /// Refusals: 1, 2, 4, 5, 9, 3.
-    pub fn reached(self, start: u32, end: u32, cells: &[u8], out: &mut [u8]) -> Result<usize, Refusal> {
-        reached(self, start, end, cells, out).result()
-    }
-
-    /// The fresh state of a map, which fills `state`: seven bytes for each node. Refusals: 1, 2, 4, 5.
-    pub fn fresh(self, orientation: u32, cells: &[u8], state: &mut [u8]) -> Result<(), Refusal> {
-        fresh(self, orientation, cells, state).result()
-    }
-
-    /// Whether a state is sound. Refusals: 1, 2, 5, 6.
-    pub fn sound(self, orientation: u32, state: &[u8]) -> Result<(), Refusal> {
-        sound(self, orientation, state).result()
-    }
-
-    /// How many words are outstanding; at 0 the state is settled. Refusals: 1, 2, 5, 6.
-    pub fn outstanding(self, orientation: u32, state: &[u8]) -> Result<usize, Refusal> {
-        outstanding(self, orientation, state).result()
-    }
-
-    /// A node hears a word, 0, 2, 4 or 6, from its neighbour in a direction. Refusals: 1, 2, 5, 6, 7, 8.
-    pub fn hear(self, orientation: u32, listener: u32, direction: u32, word: u32, state: &mut [u8]) -> Result<(), Refusal> {
-        hear(self, orientation, listener, direction, word, state).result()
-    }
-
-    /// The sizes of the map in a file, whose cells go to the front of `cells`. Refusals: 11, 1, 11, 3, 4.
-    pub fn read_map(file: &[u8], cells: &mut [u8]) -> Result<Sizes, Refusal> {
-        read_map(file, cells).result()
-    }
-
-    /// The file of a map, to the front of `out`; its length. Refusals: 1, 2, 4, 3.
-    pub fn write_map(self, cells: &[u8], out: &mut [u8]) -> Result<usize, Refusal> {
-        write_map(self, cells, out).result()
-    }
 }

@@ -1,18 +1,56 @@
-//! Dukthari for Rust: the calls of include/dukthari.h, each with a `Result`, most of them as methods of [`Sizes`].
+//! Dukthari for Rust: a storage shelf's mesh with its failed nodes, as a [`Map`]. Which transfers may go and by which way, which nodes are
+//! useless or can't be reached, how these clump together, and the state of nodes that tell each other their marks ([`Field`]).
+//!
+//! ```
+//! use dukthari::{Map, Refusal};
+//!
+//! let map: Map = "
+//! .....
+//! ..#..
+//! .#...
+//! .....
+//! .....
+//! ".parse()?;
+//! let route = map.route(0, 24)?;
+//! assert_eq!(route.nodes(), [0, 1, 2, 3, 4, 9, 14, 19, 24]);
+//! assert_eq!(map.route(6, 24), Err(Refusal::NoPath));
+//! assert_eq!(map.marks(0)?.of(6).map(|mark| mark.is_useless()), Some(true));
+//! # Ok::<(), Box<dyn std::error::Error>>(())
+//! ```
+//!
+//! A node (x, y, z) has the number x + w × (y + h × z). Directions are 0 for +X, 1 for −X, 2 +Y, 3 −Y, 4 +Z, 5 −Z. In an orientation, 0 to
+//! 7, X runs down if bit 0 is set, Y if bit 1, Z if bit 2. A number outside its range is refused, never an error of the program.
 //!
 //! What a call does is proved of the Rattle source. This crate is not: it declares the C functions and takes their answers apart, and
-//! `rust/compare` holds it to an independent search program. [`answers`] has the answers as they come, field by field.
+//! `rust/compare` holds it to an independent search program. [`Sizes`] has every call with slices that the caller lends, and [`answers`] and
+//! [`calls`] have them as they come, field by field.
 //!
 //! The archive must be there first: target/staticlib/libdukthari.a on x86-64, made by `rt staticlib dukthari`, and
 //! target/native/libdukthari.a on another machine, made by `rust/native`. Without it this crate is built all the same, with a warning, and
 //! each call panics.
 #![allow(unknown_lints, unexpected_cfgs)] // build.rs sets `linked`, and `has` for each call that is linked
+#![deny(unsafe_code)]
 
 pub mod answers;
+#[allow(unsafe_code)]
 pub mod calls;
+mod drawing;
+mod field;
+mod map;
+mod marks;
 mod refusal;
+mod route;
+mod sizes;
 
+pub use drawing::{BadDrawing, Flaw};
+pub use field::{Field, Word};
+pub use map::Map;
+pub use marks::{Component, Components, Mark, Marks};
 pub use refusal::Refusal;
+#[cfg(has = "dk_reached")]
+pub use route::Reached;
+pub use route::{Nodes, Route, Verdict};
+pub use sizes::{Place, Sizes};
 
 /// Whether there was an archive to link.
 pub const LINKED: bool = cfg!(linked);
@@ -20,35 +58,4 @@ pub const LINKED: bool = cfg!(linked);
 /// Whether include/dukthari.h declares a call of this name.
 pub fn declares(call: &str) -> bool {
     env!("DUKTHARI_CALLS").split(' ').any(|name| name == call)
-}
-
-/// The sizes of a mesh. Any numbers may be asked: a call refuses those outside 2 to 16, 2 to 16 and 1 to 16.
-#[derive(Clone, Copy, Debug, PartialEq, Eq)]
-pub struct Sizes {
-    pub w: u32,
-    pub h: u32,
-    pub d: u32,
-}
-
-#[derive(Clone, Copy, Debug, PartialEq, Eq)]
-pub struct Place {
-    pub x: u32,
-    pub y: u32,
-    pub z: u32,
-}
-
-/// The hops from start to end, and the directions in which a path begins: bit k for direction k.
-#[derive(Clone, Copy, Debug, PartialEq, Eq)]
-pub struct Verdict {
-    pub hops: u32,
-    pub offered: u32,
-}
-
-/// A component: its number of nodes, and the least and the greatest x, y and z among them.
-#[repr(C)]
-#[derive(Clone, Copy, Debug, Default, PartialEq, Eq)]
-pub struct Component {
-    pub count: u16,
-    pub least: [u8; 3],
-    pub greatest: [u8; 3],
 }

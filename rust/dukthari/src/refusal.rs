@@ -1,7 +1,15 @@
 //! Why a call was refused.
 
-/// The refusals, by their numbers 1 to 11.
-#[derive(Clone, Copy, Debug, PartialEq, Eq)]
+/// The refusals, by their numbers 1 to 11. A refused call has changed nothing that was lent to it.
+///
+/// ```
+/// use dukthari::{Map, Refusal, Sizes};
+///
+/// let refusal = Map::new(Sizes { w: 2, h: 2, d: 1 }, vec![0, 0, 7, 0]).unwrap_err();
+/// assert_eq!(refusal, Refusal::BadCell { node: 2 });
+/// assert_eq!(refusal.to_string(), "refused 4: a cell is neither 0 (works) nor 1 (faulty), the first at node 2");
+/// ```
+#[derive(Clone, Copy, Debug, PartialEq, Eq, Hash)]
 pub enum Refusal {
     /// 1: width, height or depth outside its range
     BadSizes,
@@ -44,13 +52,33 @@ impl Refusal {
             Refusal::BadFile => 11,
         }
     }
+
+    /// What was wrong, in words.
+    pub fn reason(self) -> &'static str {
+        match self {
+            Refusal::BadSizes => "width and height must be 2 to 16, depth 1 to 16",
+            Refusal::BadLength => "the cells must be exactly one byte for each node, a state exactly seven",
+            Refusal::NoRoom => "an output that was lent is shorter than what is to be written",
+            Refusal::BadCell { .. } => "a cell is neither 0 (works) nor 1 (faulty)",
+            Refusal::BadNumber => {
+                "an orientation above 7, a node or place outside the mesh, a direction above 5, or a word that is not 0, 2, 4 or 6"
+            }
+            Refusal::Unsound => "the state is not sound for this orientation",
+            Refusal::NoPair => "the listener is faulty, or its neighbour in that direction is absent or faulty",
+            Refusal::NotHeld => "the word holds a mark that the speaker lacks now",
+            Refusal::FaultyEnd => "the start or the end of the route is faulty",
+            Refusal::NoPath => "no path: every way of the least length from start to end meets a faulty node",
+            Refusal::BadFile => "no map file: its length, mark, zero byte or distance is wrong",
+        }
+    }
 }
 
 impl std::fmt::Display for Refusal {
     fn fmt(&self, f: &mut std::fmt::Formatter<'_>) -> std::fmt::Result {
+        write!(f, "refused {}: {}", self.number(), self.reason())?;
         match self {
-            Refusal::BadCell { node } => write!(f, "refused 4, node {node}"),
-            other => write!(f, "refused {}", other.number()),
+            Refusal::BadCell { node } => write!(f, ", the first at node {node}"),
+            _ => Ok(()),
         }
     }
 }

@@ -1,0 +1,61 @@
+/* May a transfer go, and by which way? transfer MAP START END reads a map file and prints the hops and the nodes of the route, or the number of
+ * the refusal, as include/dukthari.h has it. Status: 0 granted, 1 refused, 2 what was asked could not be read.
+ *
+ *     gcc transfer.c $(pkg-config --cflags --libs dukthari) -o transfer
+ */
+#include <dukthari.h>
+#include <stdio.h>
+#include <stdlib.h>
+
+/* the largest file, and one byte more, so that a longer one is seen */
+static uint8_t file[65536 + 1];
+static uint8_t cells[4096];
+
+static int refused(uint32_t number, uint32_t bad) {
+    if (number == DK_BAD_CELL)
+        printf("refused %u at node %u\n", (unsigned)number, (unsigned)bad);
+    else
+        printf("refused %u\n", (unsigned)number);
+    return 1;
+}
+
+/* A node's number; the largest of all, which no mesh has, where the word is none. */
+static uint32_t node(const char *word) {
+    char *end;
+    unsigned long number = strtoul(word, &end, 10);
+    return *word >= '0' && *word <= '9' && *end == 0 && number < UINT32_MAX ? (uint32_t)number : UINT32_MAX;
+}
+
+static int transfer(size_t length, uint32_t start, uint32_t end) {
+    uint16_t nodes[46];
+    dk_counted route;
+    uint32_t i;
+    dk_map_answer map = dk_read_map(file, length, cells, sizeof cells);
+    if (map.refusal != 0)
+        return refused(map.refusal, map.bad);
+    route = dk_route(map.w, map.h, map.d, start, end, cells, (size_t)map.w * map.h * map.d, nodes, 46);
+    if (route.refusal != 0)
+        return refused(route.refusal, route.bad);
+    printf("%u hops:", (unsigned)route.count - 1);
+    for (i = 0; i < route.count; i++)
+        printf(" %u", (unsigned)nodes[i]);
+    printf("\n");
+    return 0;
+}
+
+int main(int count, char **words) {
+    FILE *from;
+    size_t length;
+    if (count != 4) {
+        fprintf(stderr, "usage: transfer MAP START END\n");
+        return 2;
+    }
+    from = fopen(words[1], "rb");
+    if (from == NULL) {
+        fprintf(stderr, "transfer: cannot read %s\n", words[1]);
+        return 2;
+    }
+    length = fread(file, 1, sizeof file, from);
+    fclose(from);
+    return transfer(length, node(words[2]), node(words[3]));
+}

@@ -1,0 +1,97 @@
+"""The C calls: the shared library, and each call with the exception for its refusal."""
+
+import ctypes
+import ctypes.util
+import operator
+import os
+from ctypes import POINTER, Structure, c_char_p, c_size_t, c_uint8, c_uint16, c_uint32
+
+from .refusals import REFUSALS, BadCell
+
+
+def _answer(name, *fields):
+    return type(name, (Structure,), {"_fields_": [(field, c_uint32) for field in fields]})
+
+
+_Done = _answer("_Done", "refusal", "bad")
+_Counted = _answer("_Counted", "refusal", "bad", "count")
+_VerdictAnswer = _answer("_VerdictAnswer", "refusal", "bad", "hops", "offered")
+_MapAnswer = _answer("_MapAnswer", "refusal", "bad", "w", "h", "d")
+_NodeAnswer = _answer("_NodeAnswer", "refusal", "node")
+_PlaceAnswer = _answer("_PlaceAnswer", "refusal", "x", "y", "z")
+_StepAnswer = _answer("_StepAnswer", "refusal", "there", "x", "y", "z")
+
+
+class Record(Structure):
+    _fields_ = [("count", c_uint16), ("least", c_uint8 * 3), ("greatest", c_uint8 * 3)]
+
+
+_READ = (c_char_p, c_size_t)
+_BYTES = (POINTER(c_uint8), c_size_t)
+_HALVES = (POINTER(c_uint16), c_size_t)
+_RECORDS = (POINTER(Record), c_size_t)
+
+# Each call as include/dukthari.h declares it: its answer, how many numbers it takes, and its buffers.
+CALLS = {
+    "dk_number": (_NodeAnswer, 6),
+    "dk_place": (_PlaceAnswer, 4),
+    "dk_step": (_StepAnswer, 7),
+    "dk_marks": (_Done, 4, _READ, _BYTES),
+    "dk_components": (_Counted, 4, _READ, _HALVES, _RECORDS),
+    "dk_verdict": (_VerdictAnswer, 5, _READ),
+    "dk_route": (_Counted, 5, _READ, _HALVES),
+    "dk_reached": (_Counted, 5, _READ, _BYTES),
+    "dk_fresh": (_Done, 4, _READ, _BYTES),
+    "dk_sound": (_Done, 4, _READ),
+    "dk_outstanding": (_Counted, 4, _READ),
+    "dk_hear": (_Done, 7, _BYTES),
+    "dk_read_map": (_MapAnswer, 0, _READ, _BYTES),
+    "dk_write_map": (_Counted, 3, _READ, _BYTES),
+}
+
+
+def _load():
+    """The shared library: the one that the environment names, that of this tree, or the system's."""
+    named = os.environ.get("DUKTHARI_LIBRARY")
+    made = os.path.join(os.path.dirname(os.path.abspath(__file__)), "..", "..", "target", "shared", "libdukthari.so")
+    found = named or (made if os.path.exists(made) else ctypes.util.find_library("dukthari"))
+    if not found:
+        raise ImportError("no libdukthari.so: `make` makes it, or DUKTHARI_LIBRARY names it")
+    library = ctypes.CDLL(found)
+    for name, (answer, numbers, *buffers) in CALLS.items():
+        function = getattr(library, name, None)
+        if function is not None:
+            function.restype = answer
+            function.argtypes = [c_uint32] * numbers + [part for buffer in buffers for part in buffer]
+    return library
+
+
+LIBRARY = _load()
+
+
+def as_number(number):
+    """A number as the calls take it. One that has no 32 bits becomes the largest, which is outside every range, so that it is refused."""
+    number = operator.index(number)
+    return number if 0 <= number < 2**32 else 2**32 - 1
+
+
+def as_bytes(row):
+    """Cells or a state as the calls take them. A number that has no 8 bits becomes 255, which is neither, so that it is refused."""
+    return bytes(number if 0 <= number < 256 else 255 for number in map(operator.index, row))
+
+
+def call(name, numbers, *buffers):
+    """Calls the library: the answer, or the exception for its refusal. Each buffer goes with its length."""
+    lent = [part for buffer in buffers for part in (buffer, len(buffer))]
+    answer = getattr(LIBRARY, name)(*map(as_number, numbers), *lent)
+    if answer.refusal == 0:
+        return answer
+    kind = REFUSALS[answer.refusal]
+    raise kind(answer.bad) if kind is BadCell else kind()
+
+
+def nodes(sizes):
+    """How many nodes the mesh has; BadSizes if it is none."""
+    call("dk_place", (*sizes, 0))
+    w, h, d = sizes
+    return w * h * d

@@ -1,0 +1,79 @@
+"""The nodes that tell each other their marks."""
+
+import operator
+from collections import namedtuple
+from ctypes import c_uint8
+
+from .calls import as_bytes, call
+
+Word = namedtuple("Word", "listener direction word")
+Word.__doc__ = "A word that a listener has yet to hear from its neighbour in a direction: 0, 2, 4 or 6."
+
+
+class Field:
+    """The state of the talking nodes of a mesh in one orientation: seven bytes for each node, its own mark byte and then what it has heard from
+    directions 0 to 5. It is always sound: it begins so, and hearing keeps it so.
+
+    >>> from dukthari import Map
+    >>> shelf = Map(4, 4, 1)
+    >>> for place in [(2, 1, 0), (1, 2, 0), (0, 2, 0)]:
+    ...     shelf.fail(*place)
+    >>> field = shelf.fresh(0)
+    >>> field.hear(4, 0, 2)  # node 4 hears from +X that its neighbour is useless
+    >>> field.own(4), field.outstanding()
+    (2, 5)
+    >>> while field.outstanding():
+    ...     for word in field.news():
+    ...         field.hear(*word)
+    >>> field.marks() == shelf.marks(0)
+    True
+    """
+
+    def __init__(self, w, h, d, orientation, state):
+        self.sizes = tuple(operator.index(size) for size in (w, h, d))
+        self.orientation = operator.index(orientation)
+        self._state = (c_uint8 * len(state))(*as_bytes(state))
+        call("dk_sound", (*self.sizes, self.orientation), self.state)
+
+    @property
+    def state(self):
+        """The bytes of the state, as Field takes them."""
+        return bytes(self._state)
+
+    def own(self, node):
+        """What a node knows of itself, as a mark byte."""
+        call("dk_place", (*self.sizes, node))
+        return self._state[7 * node]
+
+    def heard(self, node, direction):
+        """The byte that a node has heard from a direction: a word, 8 where no neighbour exists, 1 where it is faulty. A faulty node has heard
+        0."""
+        call("dk_step", (*self.sizes, *self._place(node), direction))
+        return self._state[7 * node + 1 + direction]
+
+    def marks(self):
+        """What each node knows of itself. Once nothing is outstanding these are the marks of the map."""
+        return self.state[::7]
+
+    def outstanding(self):
+        """How many words are outstanding: pairs of working neighbours in which the listener has not heard what the speaker now holds."""
+        return call("dk_outstanding", (*self.sizes, self.orientation), self.state).count
+
+    def news(self):
+        """The words that are outstanding, as the speakers hold them now."""
+        pairs = [(node, direction) for node in range(len(self._state) // 7) for direction in range(6) if self.own(node) != 1]
+        words = [Word(node, direction, self._speaker(node, direction)) for node, direction in pairs]
+        return [word for word in words if word.word not in (None, 1, self.heard(word.listener, word.direction))]
+
+    def hear(self, listener, direction, word):
+        """A node hears a word, 0, 2, 4 or 6, from its neighbour in a direction. A late word takes nothing away."""
+        call("dk_hear", (*self.sizes, self.orientation, listener, direction, word), self._state)
+
+    def _place(self, node):
+        answer = call("dk_place", (*self.sizes, node))
+        return answer.x, answer.y, answer.z
+
+    def _speaker(self, node, direction):
+        """The own byte of a node's neighbour in a direction, None if there is none."""
+        step = call("dk_step", (*self.sizes, *self._place(node), direction))
+        return self.own(call("dk_number", (*self.sizes, step.x, step.y, step.z)).node) if step.there else None

@@ -1,0 +1,175 @@
+"""The module's examples, the scope paper's samples, each refusal, and what the module repeats of the header and of the Rust wrapper."""
+
+import doctest
+import os
+import random
+import re
+import unittest
+
+import dukthari
+from dukthari import calls, Component, Field, Map, Verdict
+
+TOP = os.path.join(os.path.dirname(os.path.abspath(__file__)), "..")
+
+
+def text(*path):
+    with open(os.path.join(TOP, *path), encoding="utf-8") as file:
+        return file.read()
+
+
+def p():
+    """Map P"""
+    return Map(5, 5, 1, [1 if node in (7, 11) else 0 for node in range(25)])
+
+
+class Samples(unittest.TestCase):
+    def test_marks_and_components(self):
+        marks = p().marks(0)
+        self.assertEqual([(node, mark) for node, mark in enumerate(marks) if mark], [(6, 2), (7, 1), (11, 1), (12, 4)])
+        table, records = p().components(0)
+        self.assertEqual(records, [Component(4, (1, 1, 0), (2, 2, 0))])
+        self.assertEqual([node for node, number in enumerate(table) if number == 1], [6, 7, 11, 12])
+        self.assertEqual(p().marks(1), p().cells)
+        self.assertEqual([record.count for record in p().components(1)[1]], [2])
+
+    def test_routes(self):
+        self.assertEqual(p().verdict(0, 24), Verdict(8, 5))
+        self.assertEqual(p().verdict(24, 0).offered, 10)
+        self.assertEqual(p().route(24, 0), [24, 23, 22, 21, 20, 15, 10, 5, 0])
+        self.assertEqual(p().verdict(6, 6), Verdict(0, 0))
+        self.assertEqual(p().route(6, 6), [6])
+        self.assertEqual(p().verdict(5, 6).hops, 1)
+        for start, end, refusal in [(0, 12, dukthari.NoPath), (2, 17, dukthari.NoPath), (7, 24, dukthari.FaultyEnd), (25, 7, dukthari.BadNumber)]:
+            self.assertRaises(refusal, p().verdict, start, end)
+            self.assertRaises(refusal, p().route, start, end)
+
+    def test_talking_nodes(self):
+        field = Map(4, 4, 1, [0, 0, 0, 0, 0, 0, 1, 0, 1, 1, 0, 0, 0, 0, 0, 0]).fresh(0)
+        self.assertEqual(field.outstanding(), 4)
+        self.assertRaises(dukthari.NotHeld, field.hear, 4, 0, 4)
+        field.hear(4, 0, 2)
+        self.assertEqual((field.own(4), field.heard(4, 0), field.outstanding()), (2, 2, 5))
+        news = field.news()
+        self.assertEqual(len(news), 5)
+        for word in news:
+            field.hear(*word)
+        self.assertEqual(field.outstanding(), 0)
+
+    def test_file(self):
+        file = p().to_file()
+        self.assertEqual(len(file), 37)
+        self.assertEqual(Map.from_file(file), p())
+        self.assertEqual(Map.from_file(b"notes" + file), p())
+
+    @unittest.skipUnless(hasattr(dukthari.LIBRARY, "dk_reached"), "the library has no dk_reached")
+    def test_reached(self):
+        self.assertEqual([node for node, byte in enumerate(p().reached(2, 17)) if byte], [2])
+        self.assertEqual(p().reached(0, 24)[24], 1)
+
+
+class Refusals(unittest.TestCase):
+    def test_each(self):
+        field = p().fresh(0)
+        asked = {
+            1: lambda: Map(1, 2, 1),
+            2: lambda: Map(2, 2, 1, b"\0\0\0"),
+            3: lambda: calls.call("dk_marks", (5, 5, 1, 0), p().cells, (calls.c_uint8 * 24)()),
+            4: lambda: Map(2, 2, 1, b"\0\0\0\2"),
+            5: lambda: p().marks(8),
+            6: lambda: Field(5, 5, 1, 0, bytes([9] * 175)),
+            7: lambda: field.hear(7, 0, 0),
+            8: lambda: field.hear(0, 0, 2),
+            9: lambda: p().route(7, 0),
+            10: lambda: p().route(0, 12),
+            11: lambda: Map.from_file(b"no map"),
+        }
+        self.assertEqual(set(asked), set(dukthari.REFUSALS))
+        before = field.state
+        for number, call in asked.items():
+            with self.assertRaises(dukthari.REFUSALS[number]) as caught:
+                call()
+            self.assertTrue(str(caught.exception).startswith(f"refused {number}: {caught.exception.reason}"))
+        self.assertEqual(field.state, before)
+        with self.assertRaises(dukthari.BadCell) as caught:
+            asked[4]()
+        self.assertEqual(caught.exception.node, 3)
+
+    def test_numbers_of_any_length(self):
+        for far in (-1, 2**32, 2**32 + 3, 2**64, -(2**32) + 2):
+            self.assertRaises(dukthari.BadSizes, Map, far, 2, 1)
+            self.assertRaises(dukthari.BadSizes, Map, 2, 2, far, b"\0\0\0\0")
+            self.assertRaises(dukthari.BadNumber, p().route, far, 0)
+            self.assertRaises(dukthari.BadNumber, p().place, far)
+            self.assertRaises(dukthari.BadNumber, p().step, 0, 0, 0, far)
+            self.assertRaises(dukthari.BadNumber, p().marks, far)
+            self.assertRaises(dukthari.BadNumber, p().fresh(0).hear, 0, 0, far)
+            self.assertRaises(dukthari.BadNumber, p().fresh(0).own, far)
+            self.assertRaises(dukthari.BadNumber, p().fresh(0).heard, 0, far)
+            self.assertRaises(dukthari.BadCell, Map, 2, 2, 1, [0, 0, far, 0])
+            self.assertRaises(dukthari.Unsound, Field, 2, 2, 1, 0, [far] * 28)
+        self.assertRaises(TypeError, p().route, "0", 24)
+        self.assertRaises(TypeError, Map, 2, 2, 1, 4)
+
+    def test_places(self):
+        shelf = Map(4, 3, 2)
+        for node in range(24):
+            self.assertEqual(shelf.number(*shelf.place(node)), node)
+        self.assertIsNone(shelf.step(3, 0, 0, 0))
+        self.assertEqual(shelf.step(3, 0, 0, 4), (3, 0, 1))
+        shelf.fail(3, 2, 1)
+        self.assertEqual(shelf.faulty(), [23])
+        self.assertRaises(dukthari.BadNumber, shelf.fail, 4, 0, 0)
+        shelf.repair(3, 2, 1)
+        self.assertEqual(shelf, Map(4, 3, 2))
+
+
+class Agreement(unittest.TestCase):
+    def test_random_maps(self):
+        numbers = random.Random(20261115)
+        for _ in range(40):
+            w, h, d = numbers.randint(2, 6), numbers.randint(2, 6), numbers.randint(1, 4)
+            percent, orientation = numbers.randint(0, 60), numbers.randint(0, 7)
+            shelf = Map(w, h, d, [int(numbers.randrange(100) < percent) for _ in range(w * h * d)])
+            self.assertEqual(Map.from_file(shelf.to_file()), shelf)
+            field = shelf.fresh(orientation)
+            while field.outstanding():
+                news = field.news()
+                self.assertEqual(len(news), field.outstanding())
+                for word in news:
+                    field.hear(*word)
+            self.assertEqual(field.marks(), shelf.marks(orientation))
+            self.assertEqual(Field(*shelf.sizes, orientation, field.state).state, field.state)
+
+    def test_drawings(self):
+        names = [name[:-4] for name in os.listdir(os.path.join(TOP, "maps")) if name.endswith(".map")]
+        self.assertGreaterEqual(len(names), 5)
+        for name in names:
+            with open(os.path.join(TOP, "maps", name + ".map"), "rb") as file:
+                self.assertEqual(str(Map.from_file(file.read())) + "\n", text("maps", name + ".txt"))
+
+    def test_header(self):
+        """The header declares the calls of this module, with as many arguments, and gives each refusal its number."""
+        declared = dict(re.findall(r"^dk_\w+ +(dk_\w+)\(([^;]*)\);", text("include", "dukthari.h"), re.MULTILINE))
+        for name, arguments in declared.items():
+            _, numbers, *buffers = calls.CALLS[name]
+            self.assertEqual(len(arguments.split(",")), numbers + 2 * len(buffers), name)
+            self.assertTrue(hasattr(dukthari.LIBRARY, name), name)
+        self.assertGreaterEqual(len(declared), 13)
+        numbers = {int(number) for number in re.findall(r"^#define DK_\w+ (\d+)u$", text("include", "dukthari.h"), re.MULTILINE)}
+        self.assertEqual(numbers, set(dukthari.REFUSALS))
+
+    def test_reasons(self):
+        """Rust and Python say the same of each refusal."""
+        said = text("rust", "dukthari", "src", "refusal.rs")
+        for kind in dukthari.REFUSALS.values():
+            self.assertIn(f'"{kind.reason}"', said)
+
+
+def load_tests(loader, tests, pattern):
+    for module in (dukthari, dukthari.map, dukthari.field):
+        tests.addTests(doctest.DocTestSuite(module))
+    return tests
+
+
+if __name__ == "__main__":
+    unittest.main()
