@@ -86,6 +86,14 @@ dk_verdict_answer dk_verdict(uint32_t w, uint32_t h, uint32_t d, uint32_t start,
 dk_counted dk_route(uint32_t w, uint32_t h, uint32_t d, uint32_t start, uint32_t end, const uint8_t *cells, size_t cells_len,
                     uint16_t *out, size_t out_len);
 
+/* What is reached: for each node, in node order, 1 where preferred steps through working nodes lead from start to it on the way to end, else
+ * 0. N bytes are written to out; later bytes stay. count: how many are 1. The byte of start is 1; the byte of end is 1 exactly if dk_verdict
+ * grants; and a preferred step from a node with 1 leads to a node with 1 or to a faulty one. So where the byte of end is 0, the bytes
+ * themselves show that no path exists.
+ * Refusals, in order: 1 sizes; 2 cells; 4 a bad cell; 5 a node N or above; 9 an end is faulty; 3 out shorter than N. */
+dk_counted dk_reached(uint32_t w, uint32_t h, uint32_t d, uint32_t start, uint32_t end, const uint8_t *cells, size_t cells_len,
+                      uint8_t *out, size_t out_len);
+
 /* A fresh state of the talking nodes for a map: 7 bytes for each node, its own mark byte, then what it has heard from directions 0 to 5.
  * Refusals, in order: 1 sizes; 2 cells, or a state not exactly 7 * N bytes; 4 a bad cell; 5 the orientation. */
 dk_done dk_fresh(uint32_t w, uint32_t h, uint32_t d, uint32_t orientation, const uint8_t *cells, size_t cells_len,

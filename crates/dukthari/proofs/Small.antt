@@ -14,6 +14,7 @@ use Rattle.mesh.specs.Cells.{mapOf, cellAt, mayEnd, badCell, firstBad, stateLen
 use Rattle.mesh.specs.Marks.{isWord}
 use Rattle.mesh.specs.Answers.{refusalBad, answerBad, _andThen_, unless, numbered, answerValue, checkSizes, checkCells, checkMap, checkOrientation, checkNode, checkDirection, checkRoom}
 use Rattle.mesh.proofs.Answers.{split, ok-of, sizes-granted, node-granted, map-granted}
+use Rattle.mesh.proofs.Bits.{bit-le}
 use Rattle.mesh.proofs.Numbers.{nodes-le, place-in}
 use Rattle.mesh.specs.declared.Sizes.{Sizes}
 use Rattle.mesh.specs.declared.Refusal.{Refusal}
@@ -26,8 +27,8 @@ use Rattle.components.specs.Components.{howMany}
 use Rattle.components.specs.Entry.{componentsCheck, componentsAnswer}
 use Rattle.routes.specs.Differences.{hops}
 use Rattle.routes.specs.Paths.{leads}
-use Rattle.routes.specs.Offered.{offered}
-use Rattle.routes.specs.Entries.{judged, checkEnd, checkPath, checkEnds, verdictCheck, verdictAnswer, routeLength, routeCheck, routeAnswer}
+use Rattle.routes.specs.Offered.{offered, reachedAt, reachedCount}
+use Rattle.routes.specs.Entries.{judged, checkEnd, checkEnds, verdictCheck, verdictAnswer, routeLength, routeCheck, routeAnswer, reachedCheck, reachedAnswer}
 use Rattle.routes.proofs.Differences.{hops-le}
 use Rattle.mapfile.specs.Format.{trailerLength, fileLimit, distance, trailerAt, hasMark, sizesIn, distanceIn, cellsIn}
 use Rattle.mapfile.specs.Entry.{mapRead, checkFrame, checkTrailer, readCheck, readAnswer, writeCheck, writeAnswer}
@@ -72,6 +73,12 @@ bad-map S cells =
 pub numbered-fits : (a : Answer) (n : ℕ) → answerBad a ≤ 65536 → (a ≡ Done → n ≤ 65536) → NumberedFits (numbered a n)
 numbered-fits Done n h k = k refl
 numbered-fits (Refused r) n h k = h
+
+-- a sum of small numbers is small
+sum-le : (n b : ℕ) (f : ℕ → ℕ) → ((k : ℕ) → f k ≤ b) → sum n f ≤ b * n
+unfolding sum
+sum-le zero b f h = omega arith
+sum-le (suc n) b f h = omega (arith, mul-suc b n, h n, sum-le n b f h)
 
 -- ---- the calls
 
@@ -134,29 +141,38 @@ read-fits file room =
     made Done S h k = k refl
     made (Refused r) S h k = h
 
--- a verdict's bad cell fits, and where it is granted the hops do
-verdict-small : (S : Sizes) (cells : List ℕ) (s e : ℕ)
-    → (answerBad (verdictCheck S cells s e) ≤ 65536) × (verdictCheck S cells s e ≡ Done → hops (placeOf S s) (placeOf S e) ≤ 45)
-unfolding verdictCheck checkEnds
-verdict-small S cells s e =
+-- the bad cell that a check of two ends may name fits, and where the ends are granted the hops between them do
+ends-small : (S : Sizes) (cells : List ℕ) (s e : ℕ)
+    → (answerBad (checkEnds S cells s e) ≤ 65536)
+    × (checkEnds S cells s e ≡ Done → InRange S × (hops (placeOf S s) (placeOf S e) ≤ 45))
+unfolding checkEnds
+ends-small S cells s e =
     let m = mapOf S cells in
     let p = placeOf S s in
     let q = placeOf S e in
     let c0 = checkMap S cells in
     let c1 = c0 andThen checkNode S s in
     let c2 = c1 andThen checkNode S e in
-    let c3 = c2 andThen checkEnd m p in
-    let c4 = c3 andThen checkEnd m q in (
-      bad-and c4 (leads m q p q) NoPath refl
-          (bad-and c3 (mayEnd (cellAt m q)) FaultyEnd refl
+    let c3 = c2 andThen checkEnd m p in (
+      bad-and c3 (mayEnd (cellAt m q)) FaultyEnd refl
           (bad-and c2 (mayEnd (cellAt m p)) FaultyEnd refl
-          (bad-and c1 (ltb e (nodes S)) BadNumber refl (bad-and c0 (ltb s (nodes S)) BadNumber refl (bad-map S cells))))),
+          (bad-and c1 (ltb e (nodes S)) BadNumber refl (bad-and c0 (ltb s (nodes S)) BadNumber refl (bad-map S cells)))),
       λ g.
-          let g3 = split c3 (checkEnd m q) (split c4 (checkPath m p q) g .0) .0 in
-          let (g1, ke) = split c1 (checkNode S e) (split c2 (checkEnd m p) g3 .0) in
+          let (g1, ke) = split c1 (checkNode S e) (split c2 (checkEnd m p) (split c3 (checkEnd m q) g .0) .0) in
           let (g0, ks) = split c0 (checkNode S s) g1 in
-          hops-le S p q (map-granted S cells g0 .sized) (place-in S s (node-granted S s ks)) (place-in S e (node-granted S e ke)),
+          let sized = map-granted S cells g0 .sized in
+          (sized, hops-le S p q sized (place-in S s (node-granted S s ks)) (place-in S e (node-granted S e ke))),
     )
+
+-- a verdict's bad cell fits, and where it is granted the hops do
+verdict-small : (S : Sizes) (cells : List ℕ) (s e : ℕ)
+    → (answerBad (verdictCheck S cells s e) ≤ 65536) × (verdictCheck S cells s e ≡ Done → hops (placeOf S s) (placeOf S e) ≤ 45)
+unfolding verdictCheck
+verdict-small S cells s e =
+    let (b, k) = ends-small S cells s e in
+    let m = mapOf S cells in
+    let found = leads m (placeOf S e) (placeOf S s) (placeOf S e) in
+    (bad-and (checkEnds S cells s e) found NoPath refl b, λ g. k (split (checkEnds S cells s e) (unless found NoPath) g .0) .1)
 
 pub verdict-fits : (S : Sizes) (cells : List ℕ) (s e : ℕ) → VerdictFits (verdictAnswer S cells s e)
 unfolding verdictAnswer
@@ -176,6 +192,19 @@ route-fits S cells s e room =
     numbered-fits (verdictCheck S cells s e andThen checkRoom need room) need
     (bad-and (verdictCheck S cells s e) (leb need room) NoRoom refl b)
     (λ g. omega (arith, k (split (verdictCheck S cells s e) (checkRoom need room) g .0)))
+
+pub reached-fits : (S : Sizes) (cells : List ℕ) (s e room : ℕ) → NumberedFits (reachedAnswer S cells s e room)
+unfolding reachedAnswer reachedCheck reachedCount
+reached-fits S cells s e room =
+    let (b, k) = ends-small S cells s e in
+    let m = mapOf S cells in
+    let p = placeOf S s in
+    let q = placeOf S e in
+    numbered-fits (checkEnds S cells s e andThen checkRoom (nodes S) room) (reachedCount m p q)
+    (bad-and (checkEnds S cells s e) (leb (nodes S) room) NoRoom refl b)
+    (λ g.
+    let sized = k (split (checkEnds S cells s e) (checkRoom (nodes S) room) g .0) .0 in
+    omega (arith, sum-le (nodes S) 1 (λ i. bit (reachedAt m p q i)) (λ i. bit-le (reachedAt m p q i)), nodes-le S sized))
 
 -- ---- the calls on a state
 
@@ -211,16 +240,6 @@ hear-fits S o k j w s =
     (bad-and c4 (isWord w) BadNumber refl
     (bad-and c3 (leb j 5) BadNumber refl
     (bad-and c2 (ltb k (nodes S)) BadNumber refl (bad-and c1 (leb o 7) BadNumber refl (bad-state S (length s))))))))
-
--- a sum of small numbers is small
-sum-le : (n b : ℕ) (f : ℕ → ℕ) → ((k : ℕ) → f k ≤ b) → sum n f ≤ b * n
-unfolding sum
-sum-le zero b f h = omega arith
-sum-le (suc n) b f h = omega (arith, mul-suc b n, h n, sum-le n b f h)
-
-bit-le : (t : Bool) → bit t ≤ 1
-bit-le true = omega arith
-bit-le false = omega arith
 
 pub outstanding-fits : (S : Sizes) (o : ℕ) (s : List ℕ) → NumberedFits (outstandingAnswer S o s)
 unfolding outstandingAnswer outstanding outstandingOn soundAnswer checkState

@@ -18,7 +18,7 @@ ghost use Rattle.mesh.specs.Mesh.{sizes, place};
 ghost use Rattle.mesh.specs.Answers.{numberAnswer, placeAnswer, stepAnswer};
 ghost use Rattle.marks.specs.Entry.{marksAnswer, marksOut};
 ghost use Rattle.components.specs.Entry.{componentsAnswer, componentsTable, componentsRow};
-ghost use Rattle.routes.specs.Entries.{verdictAnswer, routeAnswer, routeOut};
+ghost use Rattle.routes.specs.Entries.{verdictAnswer, routeAnswer, routeOut, reachedAnswer, reachedOut};
 ghost use Rattle.dukthari.specs.Answers.{nodeFields, placeFields, stepFields, doneFields, countedFields, verdictFields};
 
 mod fields;
@@ -246,5 +246,24 @@ pub extern "C" fn dk_route(
     ensures { λ _. ⌜ now (out .exit) ≡ routeOut (sizes w h d) (now (cells .entry)) start end (now (out .entry)) ⌝ }
 {
     let a = routes::entries::route(sizes_of(w, h, d), cells, start as usize, end as usize, out);
+    counted(a)
+}
+
+// What is reached: one byte for each node to the front of out, 1 where preferred steps towards the end lead from the start to it, and how
+// many are 1. Refusals: 1, 2, 4, 5, 9, 3.
+#[no_mangle]
+pub extern "C" fn dk_reached(
+    w: u32,
+    h: u32,
+    d: u32,
+    start: u32,
+    end: u32,
+    cells: &[u8],
+    out: &mut [u8],
+) -> CountedAnswer
+    ensures { λ r. ⌜ r ≡ countedFields (reachedAnswer (sizes w h d) (now (cells .entry)) start end (length (now (out .entry)))) ⌝ }
+    ensures { λ _. ⌜ now (out .exit) ≡ reachedOut (sizes w h d) (now (cells .entry)) start end (now (out .entry)) ⌝ }
+{
+    let a = routes::entries::reached(sizes_of(w, h, d), cells, start as usize, end as usize, out);
     counted(a)
 }

@@ -16,6 +16,10 @@ pub mod Paths
 pub mod Walks
 pub mod Offered
 pub mod Reached
+pub mod Direct
 pub mod Verdicts
+pub mod Promise
+pub mod Computed
+pub mod Cases
 pub mod Law
 pub mod Premises

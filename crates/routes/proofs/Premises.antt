@@ -9,7 +9,8 @@ use Rattle.mesh.specs.Cells.{Map, mapOf, wall}
 use Rattle.mesh.specs.Marks.{rule, marked, stuckWithin, stuck, useless, holds}
 use Rattle.routes.specs.Differences.{aheadOrLevel}
 use Rattle.routes.specs.Paths.{leads}
-use Rattle.routes.specs.Computed.{computed}
+use Rattle.routes.specs.Promise.{P}
+use Rattle.routes.proofs.Computed.{computed}
 
 -- a useless node and an end that it reaches, and which premise fails there: is the end useless, does it lie ahead or level
 record Premise : Type 0 where
@@ -18,9 +19,6 @@ record Premise : Type 0 where
   end : ℕ
   useless-end : Bool
   ahead-end : Bool
-
-abbrev P : Map
-P = mapOf (sizes 5 5 1) (0 ∷ 0 ∷ 0 ∷ 0 ∷ 0 ∷ 0 ∷ 0 ∷ 1 ∷ 0 ∷ 0 ∷ 0 ∷ 1 ∷ 0 ∷ 0 ∷ 0 ∷ 0 ∷ 0 ∷ 0 ∷ 0 ∷ 0 ∷ 0 ∷ 0 ∷ 0 ∷ 0 ∷ 0 ∷ [])
 
 abbrev case11 : Map
 case11 = mapOf (sizes 4 4 1) (0 ∷ 0 ∷ 0 ∷ 0 ∷ 0 ∷ 0 ∷ 1 ∷ 0 ∷ 1 ∷ 1 ∷ 0 ∷ 0 ∷ 0 ∷ 0 ∷ 0 ∷ 0 ∷ [])

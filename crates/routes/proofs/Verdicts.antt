@@ -1,85 +1,204 @@
--- What a verdict says: granted exactly if a path exists, with its hops and the offered set; refused by 10 exactly if both ends may end a
--- path and there is none, and then every walk is longer than the Manhattan distance. Assumes nothing.
+-- What the checks of a route decide, in the promise's words: passed exactly if the question is in order, both ends work and a path joins
+-- them; refused by 10 exactly if only the path is missing, and then every walk is longer than the Manhattan distance. No earlier check
+-- refuses by so high a number, so a refusal by 9 or by 10 tells that all before it have passed. Assumes nothing.
 use mathlib.Core.Path.{_≡_, refl, sym, _∙_}
 use mathlib.Core.Logic.{_↔_, inl, inr}
-use mathlib.Core.Bool.{Bool, true, false}
+use mathlib.Core.Bool.{Bool, true, false, cond, not}
 use mathlib.Core.List.{List}
-use Prim.Native.Nat.{ℕ, _+_, _<_}
-use lib.ListN.{length}
+use Prim.Native.Nat.{ℕ, _+_, _<_, _≤_}
 use native.Mathlib.Nat.{eq-or-lt-of-le}
 use native.Mathlib.Omega.{arith}
-use lib.Dec.{T}
-use borrow.Author.Tests.{lt-ltb}
-use Rattle.mesh.specs.Mesh.{nodes, placeOf}
-use Rattle.mesh.specs.Cells.{Map, mapOf, cellAt, mayEnd}
-use Rattle.mesh.specs.Answers.{_andThen_, unless, checkMap}
+use lib.ListN.{length, getD}
+use lib.Dec.{T, eqb, ltb}
+use borrow.Author.Tests.{lt-ltb, not-true}
+use Rattle.mesh.specs.Mesh.{inRange, nodes, placeOf}
+use Rattle.mesh.specs.Cells.{Map, mapOf, cellAt, badCell, firstBad, mayEnd}
+use Rattle.mesh.specs.Answers.{answerNo, refusalNo, _andThen_, unless, checkSizes, checkMap, checkNode}
+use Rattle.mesh.proofs.Tests.{holds-true, bool-ext}
+use Rattle.mesh.proofs.Answers.{split, ok-of, node-granted, map-granted, map-in-order}
 use Rattle.mesh.proofs.Numbers.{place-in}
 use Rattle.mesh.specs.declared.Sizes.{Sizes}
-use Rattle.mesh.specs.declared.Answer.the-variants.{Done}
-use Rattle.mesh.specs.declared.Refusal.the-variants.{FaultyEnd, NoPath}
+use Rattle.mesh.specs.declared.Place.{Place}
+use Rattle.mesh.specs.declared.Refusal.{Refusal}
+use Rattle.mesh.specs.declared.Refusal.the-variants.{BadSizes, BadLength, BadCell, BadNumber, FaultyEnd, NoPath}
+use Rattle.mesh.specs.declared.Answer.{Answer}
+use Rattle.mesh.specs.declared.Answer.the-variants.{Done, Refused}
 use Rattle.routes.specs.Differences.{hops}
-use Rattle.routes.specs.Paths.{Path, Walk, leads}
-use Rattle.routes.specs.Offered.{offered}
-use Rattle.routes.specs.Entries.{judged, checkEnds, verdictCheck, verdictAnswer}
+use Rattle.routes.specs.Paths.{Walk, leads}
+use Rattle.routes.specs.Entries.{checkEnds, verdictCheck}
+use Rattle.routes.specs.Promise.{InOrder, BothWork, Joined}
 use Rattle.routes.proofs.Paths.{path-iff}
 use Rattle.routes.proofs.Walks.{walk-le, path-walk}
-use Rattle.routes.specs.declared.Verdict.{Verdict}
-use Rattle.routes.specs.declared.Verdict.the-variants.{Granted, NotGranted}
 
-judge : Bool → Bool → Bool → ℕ → ℕ → Verdict
-judge a b c h o = judged (unless a FaultyEnd andThen unless b FaultyEnd andThen unless c NoPath) h o
+-- ---- how high a refusal's number can be
 
-judge-granted : (a b c : Bool) (h o : ℕ) → (judge a b c h o ≡ Granted h o) ↔ (T a × T b × T c)
-unfolding judge
-judge-granted true true true h o = (λ e. (tt, tt, tt), λ t. refl)
-judge-granted true true false h o = (λ e. let z : _≡_ {A = ℕ} 0 1 = cc in absurd (omega arith), λ t. absurd (t .2))
-judge-granted true false c h o = (λ e. let z : _≡_ {A = ℕ} 0 1 = cc in absurd (omega arith), λ t. absurd (t .1))
-judge-granted false b c h o = (λ e. let z : _≡_ {A = ℕ} 0 1 = cc in absurd (omega arith), λ t. absurd (t .0))
+no-then : (n : ℕ) (a b : Answer) → answerNo a ≤ n → answerNo b ≤ n → answerNo (a andThen b) ≤ n
+no-then n Done b h k = k
+no-then n (Refused r) b h k = h
 
-judge-refused : (a b c : Bool) (h o : ℕ) → (judge a b c h o ≡ NotGranted NoPath) ↔ (T a × T b × (T c → ⊥))
-unfolding judge
-judge-refused true true true h o = (λ e. let z : _≡_ {A = ℕ} 0 1 = cc in absurd (omega arith), λ t. absurd (t .2 tt))
-judge-refused true true false h o = (λ e. (tt, tt, λ x. x), λ t. refl)
-judge-refused true false c h o = (λ e. let z : _≡_ {A = ℕ} 0 1 = cc in absurd (omega arith), λ t. absurd (t .1))
-judge-refused false b c h o = (λ e. let z : _≡_ {A = ℕ} 0 1 = cc in absurd (omega arith), λ t. absurd (t .0))
+no-unless : (n : ℕ) (t : Bool) (r : Refusal) → refusalNo r ≤ n → answerNo (unless t r) ≤ n
+no-unless n true r h = omega arith
+no-unless n false r h = h
 
-module _ (S : Sizes) (cells : List ℕ) (s e : ℕ) (good : checkMap S cells ≡ Done) (start-in : s < nodes S) (end-in : e < nodes S) where
+no-cell : (t : Bool) (k : ℕ) → answerNo (cond t (Refused (BadCell k)) Done) ≤ 5
+no-cell true k = omega arith
+no-cell false k = omega arith
+
+-- a refusal of a higher number than the first check's is the second's
+pub past : (a b : Answer) (r : Refusal) → answerNo a < refusalNo r → a andThen b ≡ Refused r → (a ≡ Done) × (b ≡ Refused r)
+past Done b r h e = (refl, e)
+past (Refused q) b r h e = let z : q ≡ r = cc in absurd (omega (arith, rw z at h))
+
+test-failed : (t : Bool) (q r : Refusal) → unless t q ≡ Refused r → t ≡ false
+test-failed true q r e = let z : _≡_ {A = ℕ} 0 1 = cc in absurd (omega arith)
+test-failed false q r e = refl
+
+-- either of two ends
+one-fails : (a b : Bool) (r : Refusal) → unless a r andThen unless b r ≡ Refused r → T a × T b → ⊥
+one-fails true true r e t = let z : _≡_ {A = ℕ} 0 1 = cc in omega arith
+one-fails true false r e t = t .1
+one-fails false b r e t = t .0
+
+fails-one : (a b : Bool) (r : Refusal) → (T a × T b → ⊥) → unless a r andThen unless b r ≡ Refused r
+fails-one true true r n = absurd (n (tt, tt))
+fails-one true false r n = refl
+fails-one false b r n = refl
+
+then-then : (a b c : Answer) → a andThen b andThen c ≡ a andThen (b andThen c)
+then-then Done b c = refl
+then-then (Refused r) b c = refl
+
+module _ (S : Sizes) (cells : List ℕ) (s e : ℕ) where
   abbrev m : Map
   m = mapOf S cells
 
-  verdict-is : verdictAnswer S cells s e
-      ≡ judge (mayEnd (cellAt m (placeOf S s))) (mayEnd (cellAt m (placeOf S e))) (leads m (placeOf S e) (placeOf S s) (placeOf S e))
-      (hops (placeOf S s) (placeOf S e)) (offered m (placeOf S e) (placeOf S s))
-  unfolding verdictAnswer verdictCheck checkEnds judge
-  verdict-is = rw (good, lt-ltb s (nodes S) start-in, lt-ltb e (nodes S) end-in)
+  abbrev from : Place
+  from = placeOf S s
 
-  pub granted-iff : (verdictAnswer S cells s e ≡ Granted (hops (placeOf S s) (placeOf S e)) (offered m (placeOf S e) (placeOf S s)))
-      ↔ ((l : List ℕ) × Path m (placeOf S s) (placeOf S e) l)
+  abbrev to : Place
+  to = placeOf S e
+
+  -- the checks of the question, and of its ends
+  abbrev asked : Answer
+  asked = checkMap S cells andThen checkNode S s andThen checkNode S e
+
+  abbrev end-checks : Answer
+  end-checks = unless (mayEnd (cellAt m from)) FaultyEnd andThen unless (mayEnd (cellAt m to)) FaultyEnd
+
+  ends-are : checkEnds S cells s e ≡ asked andThen end-checks
+  unfolding checkEnds
+  ends-are = then-then asked (unless (mayEnd (cellAt m from)) FaultyEnd) (unless (mayEnd (cellAt m to)) FaultyEnd)
+
+  asked-no : answerNo asked ≤ 5
+  unfolding checkMap
+  asked-no =
+      let k = firstBad (badCell S) cells in
+      let c0 = checkSizes S andThen unless (eqb (length cells) (nodes S)) BadLength in
+      no-then 5 (checkMap S cells andThen checkNode S s) (checkNode S e)
+      (no-then 5 (checkMap S cells) (checkNode S s)
+      (no-then 5 c0 _
+      (no-then 5 (checkSizes S) _ (no-unless 5 (inRange S) BadSizes (omega arith)) (no-unless 5 (eqb (length cells) (nodes S)) BadLength (omega arith)))
+      (no-cell (ltb k (length cells)) k))
+      (no-unless 5 (ltb s (nodes S)) BadNumber (omega arith)))
+      (no-unless 5 (ltb e (nodes S)) BadNumber (omega arith))
+
+  in-order : (asked ≡ Done) ↔ InOrder S cells s e
+  in-order = (
+    λ h.
+        let (g, k) = split (checkMap S cells andThen checkNode S s) (checkNode S e) h in
+        let (f, l) = split (checkMap S cells) (checkNode S s) g in
+        let c = map-granted S cells f in
+        record {
+          sized = c .sized;
+          whole = c .whole;
+          good = λ i d. rw (c .good i (omega (arith, c .whole))) tt;
+          start-in = node-granted S s l;
+          end-in = node-granted S e k;
+        },
+    λ q.
+        let good : (i : ℕ) → i < length cells → badCell S i (getD cells i 0) ≡ false = λ i d.
+        not-true (badCell S i (getD cells i 0)) (holds-true (not (badCell S i (getD cells i 0))) .0 (q .good i (omega (arith, q .whole)))) in
+        rw (
+          map-in-order S cells (record { sized = q .sized; whole = q .whole; good = good }),
+          lt-ltb s (nodes S) (q .start-in),
+          lt-ltb e (nodes S) (q .end-in),
+        ),
+  )
+
+  -- ---- the ends
+
+  pub ends-iff : (checkEnds S cells s e ≡ Done) ↔ (InOrder S cells s e × BothWork S cells s e)
+  ends-iff = (
+    λ h.
+        let (q, w) = split asked end-checks (sym ends-are ∙ h) in
+        let (a, b) = split (unless (mayEnd (cellAt m from)) FaultyEnd) (unless (mayEnd (cellAt m to)) FaultyEnd) w in (
+          in-order .0 q,
+          (
+            holds-true (mayEnd (cellAt m from)) .1 (ok-of (mayEnd (cellAt m from)) FaultyEnd a),
+            holds-true (mayEnd (cellAt m to)) .1 (ok-of (mayEnd (cellAt m to)) FaultyEnd b),
+          ),
+        ),
+    λ t.
+        let (q, (a, b)) = t in
+        ends-are ∙ rw (in-order .1 q, holds-true (mayEnd (cellAt m from)) .0 a, holds-true (mayEnd (cellAt m to)) .0 b),
+  )
+
+  -- "start or end of a route is faulty": refused by 9 exactly if an end does not work
+  pub faulty-iff : (checkEnds S cells s e ≡ Refused FaultyEnd) ↔ (InOrder S cells s e × (BothWork S cells s e → ⊥))
+  faulty-iff =
+      let a = mayEnd (cellAt m from) in
+      let b = mayEnd (cellAt m to) in (
+        λ h.
+            let (q, w) = past asked end-checks FaultyEnd (omega (arith, asked-no)) (sym ends-are ∙ h) in
+            (in-order .0 q, one-fails a b FaultyEnd w),
+        λ t. ends-are ∙ rw (in-order .1 (t .0)) (fails-one a b FaultyEnd (t .1)),
+      )
+
+  ends-no : answerNo (checkEnds S cells s e) ≤ 9
+  ends-no =
+      let a = mayEnd (cellAt m from) in
+      let b = mayEnd (cellAt m to) in
+      rw ends-are (no-then 9 asked end-checks (omega (arith, asked-no))
+      (no-then 9 (unless a FaultyEnd) (unless b FaultyEnd) (no-unless 9 a FaultyEnd (omega arith)) (no-unless 9 b FaultyEnd (omega arith))))
+
+  -- ---- the path
+
+  pub granted-iff : (verdictCheck S cells s e ≡ Done) ↔ (InOrder S cells s e × Joined S cells s e)
+  unfolding verdictCheck
   granted-iff =
-      let p = path-iff m (placeOf S s) (placeOf S e) (place-in S s start-in) in
-      let j = judge-granted (mayEnd (cellAt m (placeOf S s))) (mayEnd (cellAt m (placeOf S e))) (leads m (placeOf S e) (placeOf S s) (placeOf S e))
-      (hops (placeOf S s) (placeOf S e)) (offered m (placeOf S e) (placeOf S s)) in
-      (λ h. p .1 (j .0 (sym verdict-is ∙ h)), λ w. verdict-is ∙ j .1 (p .0 w))
+      let t = leads m to from to in (
+        λ h.
+            let (f, l) = split (checkEnds S cells s e) (unless t NoPath) h in
+            let (q, (a, b)) = ends-iff .0 f in
+            (q, path-iff m from to (place-in S s (q .start-in)) .1 (a, b, holds-true t .1 (ok-of t NoPath l))),
+        λ w.
+            let (q, p) = w in
+            let (a, b, l) = path-iff m from to (place-in S s (q .start-in)) .0 p in
+            rw (ends-iff .1 (q, (a, b)), holds-true t .0 l),
+      )
 
-  -- "No path": refused by 10 exactly if both ends may end a path and none exists
-  pub refused-iff : (verdictAnswer S cells s e ≡ NotGranted NoPath)
-      ↔ (T (mayEnd (cellAt m (placeOf S s))) × T (mayEnd (cellAt m (placeOf S e))) × ((l : List ℕ) → Path m (placeOf S s) (placeOf S e) l → ⊥))
+  -- "no path": refused by 10 exactly if both ends work and no path joins them
+  pub refused-iff : (verdictCheck S cells s e ≡ Refused NoPath) ↔ (InOrder S cells s e × BothWork S cells s e × (Joined S cells s e → ⊥))
+  unfolding verdictCheck
   refused-iff =
-      let p = path-iff m (placeOf S s) (placeOf S e) (place-in S s start-in) in
-      let j = judge-refused (mayEnd (cellAt m (placeOf S s))) (mayEnd (cellAt m (placeOf S e))) (leads m (placeOf S e) (placeOf S s) (placeOf S e))
-      (hops (placeOf S s) (placeOf S e)) (offered m (placeOf S e) (placeOf S s)) in (
-        λ h. let (a, b, c) = j .0 (sym verdict-is ∙ h) in (a, b, λ l w. c (p .0 (l, w) .2)),
-        λ t. let (a, b, c) = t in verdict-is ∙ j .1 (a, b, λ x. let (l, w) = p .1 (a, b, x) in c l w),
+      let t = leads m to from to in (
+        λ h.
+            let (f, l) = past (checkEnds S cells s e) (unless t NoPath) NoPath (omega (arith, ends-no)) h in
+            let (q, (a, b)) = ends-iff .0 f in
+            let z : t ≡ false = test-failed t NoPath NoPath l in
+            (q, (a, b), λ p. rw z at (path-iff m from to (place-in S s (q .start-in)) .0 p .2)),
+        λ w.
+            let (q, (a, b), none) = w in
+            let z : t ≡ false = bool-ext t false (λ x. none (path-iff m from to (place-in S s (q .start-in)) .1 (a, b, x))) (λ x. absurd x) in
+            rw (ends-iff .1 (q, (a, b)), z),
       )
 
   -- so every walk through working neighbours is longer than the Manhattan distance
-  pub refused-walks : verdictAnswer S cells s e ≡ NotGranted NoPath
-      → (l : List ℕ) → Walk m (placeOf S e) (placeOf S s) (placeOf S e) l → hops (placeOf S s) (placeOf S e) + 1 < length l
+  pub refused-walks : verdictCheck S cells s e ≡ Refused NoPath → (l : List ℕ) → Walk m to from to l → hops from to + 1 < length l
   refused-walks h l w =
-      let i = place-in S s start-in in
-      let k = walk-le m (placeOf S e) w i in
-      let (a, b, none) = refused-iff .0 h in
-      elim (eq-or-lt-of-le k) [
-        | inl d ↦ absurd (none l (record { start-may = a; end-may = b; leading = path-walk m (placeOf S e) (placeOf S s) l i .1 (w, sym d) }))
+      let (q, (a, b), none) = refused-iff .0 h in
+      let i = place-in S s (q .start-in) in
+      elim (eq-or-lt-of-le (walk-le m to w i)) [
+        | inl d ↦ absurd (none (l, record { start-may = a; end-may = b; leading = path-walk m to from l i .1 (w, sym d) }))
         | inr d ↦ d
       ]

@@ -1,5 +1,5 @@
 -- The calls on routes: their answers, and what they leave in what is lent to them. The functions owe these equations and nothing else: what
--- the equations mean is proved here already (proofs/Verdicts, Offered, Reached). Assumes nothing.
+-- the equations mean stands in Promise.antt, and is proved. Assumes nothing.
 use mathlib.Core.List.{List, _++_}
 use Prim.Native.Nat.{ℕ, _+_}
 use lib.ListN.{length, drop}
