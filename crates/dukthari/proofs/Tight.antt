@@ -8,13 +8,16 @@ use contract.Lifetimes.{Lfts}
 use denote.Ref.{now}
 use denote.Triple.Clauses.{AtExit}
 use borrow.Fn.Kinds.{PK, RK, In, Out, Dens, resT, endedOf}
+use Rattle.mesh.specs.Mesh.{placeOf}
 use Rattle.mesh.specs.Cells.{mapOf}
 use Rattle.mesh.specs.Answers.{granted, answerNo, numbered}
 use Rattle.mesh.specs.declared.Answer.{Answer}
 use Rattle.mesh.specs.declared.Answer.the-variants.{Done, Refused}
 use Rattle.mesh.specs.declared.Sizes.{Sizes}
 use Rattle.marks.specs.Entry.{marksAnswer, marksWritten, marksOut}
+use Rattle.routes.specs.Offered.{reachedCount}
 use Rattle.routes.specs.Entries.{routeLength, routeCheck, routeAnswer, routeWritten, routeOut}
+use Rattle.routes.specs.Entries.{reachedCheck, reachedAnswer, reachedWritten, reachedOut}
 use Rattle.field.specs.Sound.{fresh}
 use Rattle.field.specs.Hear.{changed}
 use Rattle.field.specs.Entries.{freshAnswer, freshOut, hearAnswer, hearOut}
@@ -34,6 +37,8 @@ use Rattle.dukthari.proofs.dk_verdict.Kinds as verdict-kinds
 use Rattle.dukthari.proofs.dk_verdict.Reads as verdict-reads
 use Rattle.dukthari.proofs.dk_route.Kinds as route-kinds
 use Rattle.dukthari.proofs.dk_route.Reads as route-reads
+use Rattle.dukthari.proofs.dk_reached.Kinds as reached-kinds
+use Rattle.dukthari.proofs.dk_reached.Reads as reached-reads
 use Rattle.dukthari.proofs.states.dk_fresh.Kinds as fresh-kinds
 use Rattle.dukthari.proofs.states.dk_fresh.Reads as fresh-reads
 use Rattle.dukthari.proofs.states.dk_sound.Kinds as sound-kinds
@@ -80,6 +85,11 @@ route-kept : (S : Sizes) (cells : List ℕ) (s e : ℕ) (out : List ℕ)
     → (countedFields (routeAnswer S cells s e (length out)) .refusal ≡ 0 → ⊥) → routeOut S cells s e out ≡ out
 unfolding routeAnswer
 route-kept S cells s e out = counted-kept (routeCheck S cells s e (length out)) (routeLength S s e) (routeWritten S cells s e out) out
+
+reached-kept : (S : Sizes) (cells : List ℕ) (s e : ℕ) (out : List ℕ)
+    → (countedFields (reachedAnswer S cells s e (length out)) .refusal ≡ 0 → ⊥) → reachedOut S cells s e out ≡ out
+unfolding reachedAnswer
+reached-kept S cells s e out = counted-kept (reachedCheck S cells s e (length out)) (reachedCount (mapOf S cells) (placeOf S s) (placeOf S e)) (reachedWritten S cells s e out) out
 
 fresh-kept : (S : Sizes) (cells : List ℕ) (o : ℕ) (out : List ℕ) → (answerNo (freshAnswer S cells o (length out)) ≡ 0 → ⊥) → freshOut S cells o out ≡ out
 fresh-kept S cells o out = done-kept (freshAnswer S cells o (length out)) (fresh (mapOf S cells) o) out
@@ -136,6 +146,13 @@ route-tight = record {
   every = λ κs a. tt;
   one = λ κs a x y s t h k. (h .0 ∙ sym (k .0), h .1 ∙ sym (k .1));
   kept = λ κs a x s h n. h .1 ∙ route-kept _ _ _ _ _ (λ e. n (ap (λ v. v .refusal) (h .0) ∙ e));
+}
+
+pub reached-tight : Tight 2 reached-kinds.ps reached-kinds.r reached-reads.Asked reached-reads.Learnt (λ κs x. x .refusal) (λ κs a. now (a .1 .1 .1 .1 .1 .1 .0)) (λ κs s. now (s .1 .1 .1 .1 .1 .1 .0))
+reached-tight = record {
+  every = λ κs a. tt;
+  one = λ κs a x y s t h k. (h .0 ∙ sym (k .0), h .1 ∙ sym (k .1));
+  kept = λ κs a x s h n. h .1 ∙ reached-kept _ _ _ _ _ (λ e. n (ap (λ v. v .refusal) (h .0) ∙ e));
 }
 
 pub fresh-tight : Tight 2 fresh-kinds.ps fresh-kinds.r fresh-reads.Asked fresh-reads.Learnt (λ κs x. x .refusal) (λ κs a. now (a .1 .1 .1 .1 .1 .0)) (λ κs s. now (s .1 .1 .1 .1 .1 .0))
