@@ -13,7 +13,7 @@ use routes::Verdict;
 ghost use mathlib.Core.Path.{_≡_};
 ghost use Prim.Native.Nat.{_≤_};
 ghost use Rattle.mesh.specs.Mesh.{sizes, place};
-ghost use Rattle.mesh.specs.Answers.{refusalNo, refusalBad, answerBad};
+ghost use Rattle.mesh.specs.Answers.{refusalBad, answerBad};
 ghost use Rattle.dukthari.specs.Answers.{doneFields, NumberedFits, countedFields, VerdictFits, verdictFields, MapFits, mapFields};
 
 pub fn sizes_of(w: u32, h: u32, d: u32) -> Sizes
@@ -33,25 +33,6 @@ pub fn place_at(x: u32, y: u32, z: u32) -> Place
         x: x as usize,
         y: y as usize,
         z: z as usize,
-    }
-}
-
-// The number of a refusal.
-pub fn refusal_no(r: Refusal) -> u32
-    ensures { λ n. ⌜ n ≡ refusalNo r ⌝ }
-{
-    match r {
-        Refusal::BadSizes => 1,
-        Refusal::BadLength => 2,
-        Refusal::NoRoom => 3,
-        Refusal::BadCell(_) => 4,
-        Refusal::BadNumber => 5,
-        Refusal::Unsound => 6,
-        Refusal::NoPair => 7,
-        Refusal::NotHeld => 8,
-        Refusal::FaultyEnd => 9,
-        Refusal::NoPath => 10,
-        Refusal::BadFile => 11,
     }
 }
 
@@ -83,7 +64,7 @@ pub fn done(a: Answer) -> DoneAnswer
     match a {
         Answer::Done => DoneAnswer { refusal: 0, bad: 0 },
         Answer::Refused(r) => DoneAnswer {
-            refusal: refusal_no(r),
+            refusal: r.number(),
             bad: refusal_bad(r),
         },
     }
@@ -104,7 +85,7 @@ pub fn counted(a: Numbered) -> CountedAnswer
             }
         }
         Numbered::NotNumbered(r) => CountedAnswer {
-            refusal: refusal_no(r),
+            refusal: r.number(),
             bad: refusal_bad(r),
             count: 0,
         },
@@ -127,7 +108,7 @@ pub fn judged(a: Verdict) -> VerdictAnswer
             }
         }
         Verdict::NotGranted(r) => VerdictAnswer {
-            refusal: refusal_no(r),
+            refusal: r.number(),
             bad: refusal_bad(r),
             hops: 0,
             offered: 0,
@@ -154,7 +135,7 @@ pub fn read(a: MapRead) -> MapAnswer
             }
         }
         MapRead::NotRead(r) => MapAnswer {
-            refusal: refusal_no(r),
+            refusal: r.number(),
             bad: refusal_bad(r),
             w: 0,
             h: 0,

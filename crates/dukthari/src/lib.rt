@@ -3,7 +3,6 @@ use crate::fields::counted;
 use crate::fields::done;
 use crate::fields::judged;
 use crate::fields::place_at;
-use crate::fields::refusal_no;
 use crate::fields::sizes_of;
 use crate::grouping::compute;
 use components::Component;
@@ -99,7 +98,7 @@ pub extern "C" fn dk_number(w: u32, h: u32, d: u32, x: u32, y: u32, z: u32) -> N
             NodeAnswer { refusal: 0, node }
         }
         Numbered::NotNumbered(r) => NodeAnswer {
-            refusal: refusal_no(r),
+            refusal: r.number(),
             node: 0,
         },
     }
@@ -124,7 +123,7 @@ pub extern "C" fn dk_place(w: u32, h: u32, d: u32, node: u32) -> PlaceAnswer
             }
         }
         Placed::NotPlaced(r) => PlaceAnswer {
-            refusal: refusal_no(r),
+            refusal: r.number(),
             x: 0,
             y: 0,
             z: 0,
@@ -169,7 +168,7 @@ pub extern "C" fn dk_step(
             },
         },
         Stepped::NotStepped(r) => StepAnswer {
-            refusal: refusal_no(r),
+            refusal: r.number(),
             there: 0,
             x: 0,
             y: 0,

@@ -3,6 +3,7 @@
 pub mod cells;
 pub mod entries;
 pub mod numbering;
+pub mod refusing;
 pub mod stepping;
 
 pub struct Sizes {

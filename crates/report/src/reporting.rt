@@ -7,35 +7,15 @@ use crate::lines::octant_line;
 use crate::lines::refusal_line;
 use mapfile::MapRead;
 use mapfile::reader::read_map;
-use mesh::Refusal;
 use mesh::Sizes;
 ghost use mathlib.Core.Path.{_≡_};
 ghost use Prim.Native.Nat.{_+_, _≤_};
 ghost use lib.ListN.{length};
 ghost use Rattle.mesh.specs.Cells.{mapOf};
-ghost use Rattle.mesh.specs.Answers.{refusalNo, checkMap};
+ghost use Rattle.mesh.specs.Answers.{checkMap};
 ghost use Rattle.mesh.specs.declared.Answer.the-variants.{Done};
 ghost use Rattle.text.specs.Text.{Said};
 ghost use Rattle.report.specs.Report.{orientations, octantLines, mapReport, report};
-
-// The number of a refusal.
-fn refusal_number(r: Refusal) -> usize
-    ensures { λ n. ⌜ n ≡ refusalNo r ⌝ }
-{
-    match r {
-        Refusal::BadSizes => 1,
-        Refusal::BadLength => 2,
-        Refusal::NoRoom => 3,
-        Refusal::BadCell(_) => 4,
-        Refusal::BadNumber => 5,
-        Refusal::Unsound => 6,
-        Refusal::NoPair => 7,
-        Refusal::NotHeld => 8,
-        Refusal::FaultyEnd => 9,
-        Refusal::NoPath => 10,
-        Refusal::BadFile => 11,
-    }
-}
 
 // How many orientations have a line.
 fn orientations(s: Sizes) -> usize
@@ -77,6 +57,6 @@ pub fn report(file: &[u8], out: &mut [u8]) -> usize
             let n = s.nodes();
             map_report(s, &cells[..n], out)
         }
-        MapRead::NotRead(r) => refusal_line(refusal_number(r), out, 0),
+        MapRead::NotRead(r) => refusal_line(r.number() as usize, out, 0),
     }
 }

@@ -35,14 +35,14 @@ cast-node c =
 enum-known-a-2 : tie.Need-enum-known-a-2
 enum-known-a-2 c = search needs
 
-refusal-no-requires : tie.Need-refusal-no-requires
-refusal-no-requires c κs = search needs
+number-requires : tie.Need-number-requires
+number-requires c κs = search needs
 
 returns : tie.Need-returns
 returns c = ap nodeFields (sym (c .before .a .given .1) ∙ answered (c .before .before .before))
 
 returns-2 : tie.Need-returns-2
-returns-2 c = rw (c .refusal-no .ensures) (ap nodeFields (sym (c .before .before .a2 .given .1) ∙ answered (c .before .before .before .before)))
+returns-2 c = rw (c .number .ensures) (ap nodeFields (sym (c .before .before .a2 .given .1) ∙ answered (c .before .before .before .before)))
 
 pub dk-number-spec : {M : Type 1} → statement M
 dk-number-spec =
@@ -54,6 +54,6 @@ dk-number-spec =
     enum-known-a
     cast-node
     enum-known-a-2
-    refusal-no-requires
+    number-requires
     returns
     returns-2)

@@ -40,14 +40,14 @@ cast-z c = let (r, i) = fits (c .before .before) in omega arith
 enum-known-a-2 : tie.Need-enum-known-a-2
 enum-known-a-2 c = search needs
 
-refusal-no-requires : tie.Need-refusal-no-requires
-refusal-no-requires c κs = search needs
+number-requires : tie.Need-number-requires
+number-requires c κs = search needs
 
 returns : tie.Need-returns
 returns c = ap placeFields (sym (c .before .before .before .before .a .given .1) ∙ answered (c .before .before .before .before .before .before))
 
 returns-2 : tie.Need-returns-2
-returns-2 c = rw (c .refusal-no .ensures) (ap placeFields (sym (c .before .before .a2 .given .1) ∙ answered (c .before .before .before .before)))
+returns-2 c = rw (c .number .ensures) (ap placeFields (sym (c .before .before .a2 .given .1) ∙ answered (c .before .before .before .before)))
 
 pub dk-place-spec : {M : Type 1} → statement M
 dk-place-spec =
@@ -60,6 +60,6 @@ dk-place-spec =
     cast-y
     cast-z
     enum-known-a-2
-    refusal-no-requires
+    number-requires
     returns
     returns-2)

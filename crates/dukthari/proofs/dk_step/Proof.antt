@@ -56,8 +56,8 @@ enum-told c = search needs
 enum-known-a-2 : tie.Need-enum-known-a-2
 enum-known-a-2 c = search needs
 
-refusal-no-requires : tie.Need-refusal-no-requires
-refusal-no-requires c κs = search needs
+number-requires : tie.Need-number-requires
+number-requires c κs = search needs
 
 returns : tie.Need-returns
 returns c = ap stepFields (sym (led (c .before .before .before .before .before .before) ∙ ap Led (c .before .before .before .before .n .given .1)))
@@ -66,7 +66,7 @@ returns-2 : tie.Need-returns-2
 returns-2 c = ap stepFields (sym (led (c .before .before) ∙ ap Led (c .enum-told .given .1)))
 
 returns-3 : tie.Need-returns-3
-returns-3 c = rw (c .refusal-no .ensures) (ap stepFields (sym (c .before .before .a2 .given .1) ∙ answered (c .before .before .before .before)))
+returns-3 c = rw (c .number .ensures) (ap stepFields (sym (c .before .before .a2 .given .1) ∙ answered (c .before .before .before .before)))
 
 pub dk-step-spec : {M : Type 1} → statement M
 dk-step-spec =
@@ -82,7 +82,7 @@ dk-step-spec =
     cast-z
     enum-told
     enum-known-a-2
-    refusal-no-requires
+    number-requires
     returns
     returns-2
     returns-3)

@@ -16,8 +16,8 @@ cast-count c = let h = subst NumberedFits (c .before .a .given .1) (c .before .b
 enum-known-a-2 : tie.Need-enum-known-a-2
 enum-known-a-2 c = search needs
 
-refusal-no-requires : tie.Need-refusal-no-requires
-refusal-no-requires c κs = search needs
+number-requires : tie.Need-number-requires
+number-requires c κs = search needs
 
 refusal-bad-requires : tie.Need-refusal-bad-requires
 refusal-bad-requires c κs = subst NumberedFits (c .before .before .a2 .given .1) (c .before .before .before .before .pre)
@@ -26,7 +26,7 @@ returns : tie.Need-returns
 returns c = rw (c .before .a .given .1)
 
 returns-2 : tie.Need-returns-2
-returns-2 c = rw (c .before .before .before .a2 .given .1, c .refusal-bad .ensures, c .before .refusal-no .ensures)
+returns-2 c = rw (c .before .before .before .a2 .given .1, c .refusal-bad .ensures, c .before .number .ensures)
 
 pub counted-spec : {M : Type 1} → statement M
 counted-spec =
@@ -35,7 +35,7 @@ counted-spec =
     enum-known-a
     cast-count
     enum-known-a-2
-    refusal-no-requires
+    number-requires
     refusal-bad-requires
     returns
     returns-2)

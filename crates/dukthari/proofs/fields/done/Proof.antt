@@ -13,8 +13,8 @@ enum-told c = search needs
 enum-known-a : tie.Need-enum-known-a
 enum-known-a c = search needs
 
-refusal-no-requires : tie.Need-refusal-no-requires
-refusal-no-requires c κs = search needs
+number-requires : tie.Need-number-requires
+number-requires c κs = search needs
 
 refusal-bad-requires : tie.Need-refusal-bad-requires
 refusal-bad-requires c κs = subst (λ (a : Answer). answerBad a ≤ 65536) (c .before .before .a .given .1) (c .before .before .before .before .pre)
@@ -23,9 +23,9 @@ returns : tie.Need-returns
 returns c = rw (c .enum-told .given .1)
 
 returns-2 : tie.Need-returns-2
-returns-2 c = rw (c .before .before .before .a .given .1, c .refusal-bad .ensures, c .before .refusal-no .ensures)
+returns-2 c = rw (c .before .before .before .a .given .1, c .refusal-bad .ensures, c .before .number .ensures)
 
 pub done-spec : {M : Type 1} → statement M
 done-spec =
     tie.close
-    (tie.spec enum-told enum-known-a refusal-no-requires refusal-bad-requires returns returns-2)
+    (tie.spec enum-told enum-known-a number-requires refusal-bad-requires returns returns-2)

@@ -21,8 +21,8 @@ cast-d c = let h = subst MapFits (c .before .before .before .before .a .given .1
 enum-known-a-2 : tie.Need-enum-known-a-2
 enum-known-a-2 c = search needs
 
-refusal-no-requires : tie.Need-refusal-no-requires
-refusal-no-requires c κs = search needs
+number-requires : tie.Need-number-requires
+number-requires c κs = search needs
 
 refusal-bad-requires : tie.Need-refusal-bad-requires
 refusal-bad-requires c κs = subst MapFits (c .before .before .a2 .given .1) (c .before .before .before .before .pre)
@@ -31,7 +31,7 @@ returns : tie.Need-returns
 returns c = rw (c .before .before .before .before .a .given .1)
 
 returns-2 : tie.Need-returns-2
-returns-2 c = rw (c .before .before .before .a2 .given .1, c .refusal-bad .ensures, c .before .refusal-no .ensures)
+returns-2 c = rw (c .before .before .before .a2 .given .1, c .refusal-bad .ensures, c .before .number .ensures)
 
 pub read-spec : {M : Type 1} → statement M
 read-spec =
@@ -42,7 +42,7 @@ read-spec =
     cast-h
     cast-d
     enum-known-a-2
-    refusal-no-requires
+    number-requires
     refusal-bad-requires
     returns
     returns-2)

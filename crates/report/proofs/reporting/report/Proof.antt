@@ -93,8 +93,11 @@ map-report-requires c κs =
 enum-known-r : tie.Need-enum-known-r
 enum-known-r c = search needs
 
-refusal-number-requires : tie.Need-refusal-number-requires
-refusal-number-requires c κs = search needs
+number-requires : tie.Need-number-requires
+number-requires c κs = search needs
+
+cast-refusal-line : tie.Need-cast-refusal-line
+cast-refusal-line c = search needs
 
 refusal-line-requires : tie.Need-refusal-line-requires
 refusal-line-requires c κs = search needs
@@ -127,7 +130,7 @@ returns-2 c =
     let a = made .before .before .before .args in
     let r = taken .r .given .0 .0 in
     let is = ap (readAnswer (now (a .file))) (sym (made .blank-cells .ensures)) ∙ sym (read .read-map .ensures .0) ∙ taken .r .given .1 in
-    let e = ap refusalLine (number .refusal-number .ensures) ∙ refusal-text (now (a .file)) r is in (
+    let e = ap refusalLine (number .number .ensures) ∙ refusal-text (now (a .file)) r is in (
       said-as e (called .refusal-line .ensures .0),
       omega (arith, called .refusal-line .ensures .1),
     )
@@ -145,7 +148,8 @@ report-spec =
     slice-aggregate-map-report
     map-report-requires
     enum-known-r
-    refusal-number-requires
+    number-requires
+    cast-refusal-line
     refusal-line-requires
     same-length
     returns
