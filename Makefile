@@ -13,7 +13,7 @@ DESTDIR ?=
 prefix := $(abspath $(PREFIX))
 to := $(DESTDIR)$(prefix)
 
-proved := crates.txt $(shell find crates -type f)
+proved := crates.txt $(shell find crates -type f -not -path '*/must-fail/*')
 wrapper := rust/Cargo.toml rust/Cargo.lock $(shell find rust/dukthari rust/draw -type f)
 archive := target/staticlib/libdukthari.a
 ifeq ($(shell uname -m),x86_64)

@@ -44,7 +44,7 @@ class Samples(unittest.TestCase):
             self.assertRaises(refusal, p().route, start, end)
 
     def test_talking_nodes(self):
-        field = Map(4, 4, 1, [0, 0, 0, 0, 0, 0, 1, 0, 1, 1, 0, 0, 0, 0, 0, 0]).fresh(0)
+        field = Field.fresh(Map(4, 4, 1, [0, 0, 0, 0, 0, 0, 1, 0, 1, 1, 0, 0, 0, 0, 0, 0]), 0)
         self.assertEqual(field.outstanding(), 4)
         self.assertRaises(dukthari.NotHeld, field.hear, 4, 0, 4)
         field.hear(4, 0, 2)
@@ -69,7 +69,7 @@ class Samples(unittest.TestCase):
 
 class Refusals(unittest.TestCase):
     def test_each(self):
-        field = p().fresh(0)
+        field = Field.fresh(p(), 0)
         asked = {
             1: lambda: Map(1, 2, 1),
             2: lambda: Map(2, 2, 1, b"\0\0\0"),
@@ -102,9 +102,10 @@ class Refusals(unittest.TestCase):
             self.assertRaises(dukthari.BadNumber, p().place, far)
             self.assertRaises(dukthari.BadNumber, p().step, 0, 0, 0, far)
             self.assertRaises(dukthari.BadNumber, p().marks, far)
-            self.assertRaises(dukthari.BadNumber, p().fresh(0).hear, 0, 0, far)
-            self.assertRaises(dukthari.BadNumber, p().fresh(0).own, far)
-            self.assertRaises(dukthari.BadNumber, p().fresh(0).heard, 0, far)
+            self.assertRaises(dukthari.BadNumber, Field.fresh, p(), far)
+            self.assertRaises(dukthari.BadNumber, Field.fresh(p(), 0).hear, 0, 0, far)
+            self.assertRaises(dukthari.BadNumber, Field.fresh(p(), 0).own, far)
+            self.assertRaises(dukthari.BadNumber, Field.fresh(p(), 0).heard, 0, far)
             self.assertRaises(dukthari.BadCell, Map, 2, 2, 1, [0, 0, far, 0])
             self.assertRaises(dukthari.Unsound, Field, 2, 2, 1, 0, [far] * 28)
         self.assertRaises(TypeError, p().route, "0", 24)
@@ -131,7 +132,7 @@ class Agreement(unittest.TestCase):
             percent, orientation = numbers.randint(0, 60), numbers.randint(0, 7)
             shelf = Map(w, h, d, [int(numbers.randrange(100) < percent) for _ in range(w * h * d)])
             self.assertEqual(Map.from_file(shelf.to_file()), shelf)
-            field = shelf.fresh(orientation)
+            field = Field.fresh(shelf, orientation)
             while field.outstanding():
                 news = field.news()
                 self.assertEqual(len(news), field.outstanding())

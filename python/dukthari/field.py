@@ -14,11 +14,11 @@ class Field:
     """The state of the talking nodes of a mesh in one orientation: seven bytes for each node, its own mark byte and then what it has heard from
     directions 0 to 5. It is always sound: it begins so, and hearing keeps it so.
 
-    >>> from dukthari import Map
+    >>> from dukthari import Field, Map
     >>> shelf = Map(4, 4, 1)
     >>> for place in [(2, 1, 0), (1, 2, 0), (0, 2, 0)]:
     ...     shelf.fail(*place)
-    >>> field = shelf.fresh(0)
+    >>> field = Field.fresh(shelf, 0)
     >>> field.hear(4, 0, 2)  # node 4 hears from +X that its neighbour is useless
     >>> field.own(4), field.outstanding()
     (2, 5)
@@ -34,6 +34,13 @@ class Field:
         self.orientation = operator.index(orientation)
         self._state = (c_uint8 * len(state))(*as_bytes(state))
         call("dk_sound", (*self.sizes, self.orientation), self.state)
+
+    @classmethod
+    def fresh(cls, shelf, orientation):
+        """The state of a Map in which nothing has been heard."""
+        state = (c_uint8 * (7 * len(shelf.cells)))()
+        call("dk_fresh", (*shelf.sizes, orientation), shelf.cells, state)
+        return cls(*shelf.sizes, orientation, state)
 
     @property
     def state(self):

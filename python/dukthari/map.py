@@ -5,7 +5,6 @@ from collections import namedtuple
 from ctypes import c_uint8, c_uint16
 
 from .calls import Record, as_bytes, call, nodes
-from .field import Field
 
 Verdict = namedtuple("Verdict", "hops offered")
 Verdict.__doc__ = "The hops from start to end, and the directions in which a path begins: bit k for direction k."
@@ -134,9 +133,3 @@ class Map:
         out = (c_uint8 * len(self._cells))()
         call("dk_reached", (*self.sizes, start, end), self._cells, out)
         return bytes(out)
-
-    def fresh(self, orientation):
-        """The nodes that tell each other their marks, before anything is heard: a Field."""
-        state = (c_uint8 * (7 * len(self._cells)))()
-        call("dk_fresh", (*self.sizes, orientation), self._cells, state)
-        return Field(*self.sizes, orientation, state)

@@ -5,10 +5,10 @@ use crate::{Map, Mark, Refusal, Sizes};
 /// always sound: it begins so, and hearing keeps it so.
 ///
 /// ```
-/// use dukthari::{Map, Refusal};
+/// use dukthari::{Field, Map, Refusal};
 ///
 /// let map: Map = "....\n..#.\n##..\n....".parse()?;
-/// let mut field = map.fresh(0)?;
+/// let mut field = Field::fresh(&map, 0)?;
 /// assert_eq!(field.outstanding(), 4);
 /// assert_eq!(field.hear(4, 0, 4), Err(Refusal::NotHeld));
 /// field.hear(4, 0, 2)?; // node 4 hears from +X that its neighbour is useless

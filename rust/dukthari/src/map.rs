@@ -1,5 +1,5 @@
 //! A map that owns its sizes and cells.
-use crate::{Component, Components, Field, Marks, Place, Refusal, Route, Sizes, Verdict};
+use crate::{Component, Components, Marks, Place, Refusal, Route, Sizes, Verdict};
 
 /// The longest map file without notes: 4,096 cells and the trailer.
 const FILE: usize = 4096 + 12;
@@ -171,10 +171,5 @@ impl Map {
         let mut bytes = vec![0; self.cells.len()];
         let count = self.sizes.reached(start, end, &self.cells, &mut bytes)?;
         Ok(crate::Reached { bytes, count })
-    }
-
-    /// The fresh state of the nodes that tell each other their marks. Refusal: 5.
-    pub fn fresh(&self, orientation: u32) -> Result<Field, Refusal> {
-        Field::fresh(self, orientation)
     }
 }

@@ -1,6 +1,6 @@
 //! What the types say of each other, on maps of every size class drawn at random from a fixed seed.
 #![allow(unknown_lints, unexpected_cfgs)]
-use dukthari::{Map, Refusal, Sizes};
+use dukthari::{Field, Map, Refusal, Sizes};
 
 /// A row of numbers that always is the same.
 struct Numbers(u64);
@@ -80,7 +80,7 @@ fn components_count_the_unsafe_nodes() {
 fn talking_nodes_settle_at_the_marks() {
     on_maps(60, |numbers, map| {
         let orientation = numbers.below(8);
-        let mut field = map.fresh(orientation).unwrap();
+        let mut field = Field::fresh(map, orientation).unwrap();
         loop {
             let news = field.news();
             assert_eq!(news.len(), field.outstanding());
@@ -92,7 +92,7 @@ fn talking_nodes_settle_at_the_marks() {
             }
         }
         assert_eq!(field.marks(), map.marks(orientation).unwrap());
-        let kept = dukthari::Field::from_state(map.sizes(), orientation, field.state().to_vec());
+        let kept = Field::from_state(map.sizes(), orientation, field.state().to_vec());
         assert_eq!(kept, Ok(field));
     });
 }
@@ -117,6 +117,6 @@ fn a_map_is_refused_for_its_arguments_alone() {
         let beyond = map.cells().len() as u32;
         assert_eq!(map.verdict(beyond, 0), Err(Refusal::BadNumber));
         assert_eq!(map.route(0, beyond), Err(Refusal::BadNumber));
-        assert_eq!(map.fresh(8), Err(Refusal::BadNumber));
+        assert_eq!(Field::fresh(map, 8), Err(Refusal::BadNumber));
     });
 }

@@ -11,7 +11,7 @@ fn p() -> Map {
 fn every_refusal_has_its_number_and_its_words() {
     let mut file = p().to_file();
     file[36] = b'2';
-    let mut field = p().fresh(0).unwrap();
+    let mut field = Field::fresh(&p(), 0).unwrap();
     let given = [
         Map::working(Sizes { w: 1, h: 2, d: 1 }).unwrap_err(),
         Map::new(P, vec![0; 24]).unwrap_err(),
@@ -40,7 +40,7 @@ fn a_refused_call_changes_nothing() {
     assert_eq!(map.fail(Place { x: 0, y: 0, z: 1 }), Err(Refusal::BadNumber));
     assert_eq!(map.repair(Place { x: 5, y: 0, z: 0 }), Err(Refusal::BadNumber));
     assert_eq!(map, p());
-    let mut field = p().fresh(0).unwrap();
+    let mut field = Field::fresh(&p(), 0).unwrap();
     let before = field.clone();
     for (listener, direction, word) in [(25, 0, 0), (0, 6, 0), (0, 0, 1), (0, 1, 0), (7, 0, 0), (0, 0, 6)] {
         assert!(field.hear(listener, direction, word).is_err());
