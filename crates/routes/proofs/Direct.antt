@@ -8,7 +8,9 @@ use mathlib.Core.List.{List, [], _∷_}
 use Prim.Native.Nat.{ℕ, zero, suc, _<_}
 use native.Mathlib.Omega.{arith}
 use lib.ListN.{length, getD}
-use lib.Dec.{T, ltb→lt}
+use lib.Dec.{T, ltb, ltb→lt}
+use lib.Seq.{ext-getD}
+use borrow.Author.Tests.{ltb-true, ltb-false}
 use Rattle.mesh.specs.Mesh.{Axis, X, Y, Z, span, on, Inside, nodes, number, placeOf}
 use Rattle.mesh.specs.Steps.{next, along}
 use Rattle.mesh.specs.Cells.{Map, mapOf, cellAt, mayPass, mayEnd, linked}
@@ -237,3 +239,32 @@ module _ (S : Sizes) (cells : List ℕ) (s e : ℕ) where
       let z : r′ ≡ r = cc in
       let v = mayHop-iff m (placeOf S e) p j r .0 (rw z at y) .2 in
       lowest-takes L (next-in S p r i j g) (enter-end m (placeOf S e) r v) b c (omega arith)
+
+-- the lowest is one
+least-one : (B : ℕ → Type 0) (j k : ℕ) → B j → ((i : ℕ) → i < j → B i → ⊥) → B k → ((i : ℕ) → i < k → B i → ⊥) → j ≡ k
+least-one B j k b n c o = split (ltb j k) refl (ltb k j) refl
+  where
+    split : (t : Bool) → ltb j k ≡ t → (u : Bool) → ltb k j ≡ u → j ≡ k
+    split true f u g = absurd (o j (ltb-true j k f) b)
+    split false f true g = absurd (n k (ltb-true k j g) c)
+    split false f false g = omega (arith, ltb-false j k f, ltb-false k j g)
+
+-- so there is one such path
+pub one-route : (S : Sizes) (cells : List ℕ) (s e : ℕ) → s < nodes S → e < nodes S → (l k : List ℕ)
+    → Path (mapOf S cells) (placeOf S s) (placeOf S e) l → TakesLowest S cells s e l
+    → Path (mapOf S cells) (placeOf S s) (placeOf S e) k → TakesLowest S cells s e k → l ≡ k
+one-route S cells s e a b l k p t q u =
+    let w = path-direct S cells s e a b l .0 p in
+    let v = path-direct S cells s e a b k .0 q in
+    ext-getD 0 l k (w .size ∙ sym (v .size)) (same w v)
+  where
+    same : DirectWalk S cells s e l → DirectWalk S cells s e k → (i : ℕ) → i < length l → getD l i 0 ≡ getD k i 0
+    same w v zero h = w .first ∙ sym (v .first)
+    same w v (suc i) h =
+        let f = same w v i (omega arith) in
+        let (c, g, x, n) = t i h in
+        let (d, g′, y, o) = u i (omega (arith, w .size, v .size)) in
+        let y′ : Begins S cells s e (getD l i 0) d = rw f y in
+        let z : c ≡ d = least-one (Begins S cells s e (getD l i 0)) c d x n y′ (λ j l r. o j l (rw (← f) r)) in
+        let r : placeOf S (getD l (suc i) 0) ≡ placeOf S (getD k (suc i) 0) = cc in
+        sym (number-of S (getD l (suc i) 0)) ∙ ap (number S) r ∙ number-of S (getD k (suc i) 0)

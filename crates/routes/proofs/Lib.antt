@@ -21,5 +21,6 @@ pub mod Verdicts
 pub mod Promise
 pub mod Computed
 pub mod Cases
+pub mod Impostors
 pub mod Law
 pub mod Premises
