@@ -4,55 +4,22 @@ use mathlib.Core.Path.{_≡_, refl, sym, ap, _∙_}
 use mathlib.Core.Logic.{inl, inr}
 use mathlib.Core.Bool.{Bool, true, false, not, _&&_}
 use mathlib.Core.List.{List}
-use Prim.Native.Nat.{ℕ, _+_, _<_}
-use native.Mathlib.Omega.{arith}
+use Prim.Native.Nat.{ℕ, _<_}
 use lib.Dec.{T, eqb}
-use borrow.Author.Tests.{eq-eqb, ne-eqb}
+use borrow.Author.Tests.{eq-eqb}
 use Rattle.mesh.specs.Tools.{bit, sum, count}
-use Rattle.mesh.specs.Mesh.{Axis, X, Y, Z, span, on, nodes, number, placeOf, Inside}
-use Rattle.mesh.specs.Steps.{along}
+use Rattle.mesh.specs.Mesh.{nodes, number, placeOf}
 use Rattle.mesh.specs.Cells.{Map, wall}
 use Rattle.mesh.specs.Marks.{readBy}
 use Rattle.mesh.specs.declared.Sizes.{Sizes}
-use Rattle.mesh.specs.declared.Place.{Place}
 use Rattle.mesh.proofs.Tests.{T-no, tried, holds-true, cond-true, cond-false}
 use Rattle.mesh.proofs.Tables.{sum-same, sum-zero}
-use Rattle.mesh.proofs.Strides.{stride}
 use Rattle.field.specs.State.{own, heard, mapIn, faultyNode, worksNode, pair, says}
 use Rattle.field.specs.Sound.{Sound}
 use Rattle.field.specs.Hear.{news, outstandingOn, outstanding}
-use Rattle.field.specs.Scan.{shownUp, shownDown, shows, nodeNews}
+use Rattle.field.specs.Scan.{shows, nodeNews}
 use Rattle.field.proofs.State.{faulty-in, pair-talks, speaker-is}
-use Rattle.field.proofs.Shown.{shows-up, shows-down}
 use Rattle.field.proofs.Exact.{reads}
-
--- ---- a node's count, as the code puts it together
-
-module _ (S : Sizes) (s : List ℕ) (p : Place) (i : Inside S p) (k : ℕ) (e : k ≡ number S p) where
-  abbrev pub sidesNews : Axis → ℕ
-  sidesNews a =
-      bit (not (eqb (shownUp s k (on p a) (span S a) (stride S a)) (heard s k (along a false))))
-      + bit (not (eqb (shownDown s k (on p a) (stride S a)) (heard s k (along a true))))
-
-  sides-news : count 6 (λ j. not (eqb (shows S s k j) (heard s k j))) ≡ sidesNews X + sidesNews Y + sidesNews Z
-  unfolding sum
-  sides-news = rw (up X, down X, up Y, down Y, up Z, down Z) (omega arith)
-    where
-      up : (a : Axis) → shows S s k (along a false) ≡ shownUp s k (on p a) (span S a) (stride S a)
-      up = shows-up S s p i k e
-
-      down : (a : Axis) → shows S s k (along a true) ≡ shownDown s k (on p a) (stride S a)
-      down = shows-down S s p i k e
-
-  pub faulty-news : own s k ≡ 1 → 0 ≡ nodeNews S s k
-  unfolding nodeNews
-  faulty-news h = rw (eq-eqb (own s k) 1 h)
-
-  pub working-news : (x y z : ℕ) → x ≡ sidesNews X → y ≡ sidesNews Y → z ≡ sidesNews Z → (own s k ≡ 1 → ⊥) → x + y + z ≡ nodeNews S s k
-  unfolding nodeNews
-  working-news x y z ex ey ez h = rw (ne-eqb (own s k) 1 h, ex, ey, ez) (sym sides-news)
-
--- ---- in a sound state that is the number of words outstanding
 
 no-pair : (a b : Bool) → (T a → ⊥) → 0 ≡ bit (a && b)
 no-pair true b f = absurd (f tt)

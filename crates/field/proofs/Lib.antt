@@ -3,6 +3,8 @@ pub mod Decide
 pub mod Same
 pub mod Rule
 pub mod Quick
+pub mod Packed
+pub mod Beside
 pub mod Shown
 pub mod Tested
 pub mod Scanned

@@ -2,14 +2,17 @@
 use mathlib.Core.Path.{_≡_, refl, sym, ap, _∙_}
 use mathlib.Core.Bool.{Bool, true, false, cond}
 use mathlib.Core.List.{List}
-use Prim.Native.Nat.{ℕ, _+_, _-_, _<_}
+use Prim.Native.Nat.{ℕ, _+_, _-_, _*_, _<_}
 use native.Mathlib.Omega.{arith}
 use lib.Dec.{T, eqb, ltb, eqb→eq, ltb→lt}
-use Rattle.mesh.specs.Mesh.{Axis, span, on, nodes, number, Inside}
+use lib.ListN.{getD}
+use Rattle.mesh.specs.Mesh.{Axis, span, on, nodes, number, placeOf, Inside}
 use Rattle.mesh.specs.Steps.{next, along}
+use Rattle.mesh.specs.Cells.{wall}
 use Rattle.mesh.specs.Marks.{readBy}
 use Rattle.mesh.specs.declared.Sizes.{Sizes}
 use Rattle.mesh.specs.declared.Place.{Place}
+use Rattle.mesh.specs.declared.Next.{Next}
 use Rattle.mesh.specs.declared.Next.the-variants.{At, Edge}
 use Rattle.mesh.proofs.Numbers.{nodes-le, number-lt, place-of}
 use Rattle.mesh.proofs.Steps.{put, inside-on, put-in, next-along}
@@ -67,6 +70,19 @@ module _ (S : Sizes) (s : List ℕ) where
 
       pub shows-down : shows S s k (along a true) ≡ shownDown s k (on p a) (stride S a)
       shows-down = rw e (down-at a)
+
+-- what is shown is a byte
+pub shows-byte : (S : Sizes) (s : List ℕ) → ((i : ℕ) → getD s i 0 < 256) → (k j : ℕ) → shows S s k j < 256
+unfolding shows
+shows-byte S s b k j = go (next S (placeOf S k) j)
+  where
+    at : (t : Bool) (q : Place) → cond t 1 (own s (number S q)) < 256
+    at true q = omega arith
+    at false q = b (7 * number S q)
+
+    go : (n : Next) → readBy (mapIn S s) (λ q. own s (number S q)) (placeOf S k) j n < 256
+    go Edge = omega arith
+    go (At q) = at (wall (mapIn S s) (placeOf S k) j q) q
 
 -- what is had of all nodes is had of the neighbours
 pub beside : (S : Sizes) (Has : ℕ → Type 0) → ((k : ℕ) → k < nodes S → Has k)

@@ -1,17 +1,17 @@
--- How the code goes through a state: row by row, and byte by byte without branches on what a byte holds. `scan-is` and `news-is` of
+-- How the code goes through a state: row by row, six bytes at once, without branches on what a byte holds. `scan-is` and `news-is` of
 -- proofs/ show that it finds what 01 says. Assumes nothing.
-use mathlib.Core.Bool.{Bool, cond, not, _&&_, _||_}
-use mathlib.Core.List.{List}
+use mathlib.Core.Bool.{Bool, false, cond, not, _&&_, _||_}
+use mathlib.Core.List.{List, [], _∷_}
 use mathlib.Core.Path.{_≡_}
-use Prim.Native.Nat.{ℕ, _+_, _-_, _*_, _/_, _%_, _<_, _≤_}
+use Prim.Native.Nat.{ℕ, zero, suc, _+_, _-_, _*_, _<_, _≤_}
 use lib.Bits.{bitAnd, bitOr}
 use lib.Dec.{eqb, ltb}
 use lib.ListN.{length, getD}
 use Rattle.mesh.specs.Tools.{bit, all, sum, count}
-use Rattle.mesh.specs.Mesh.{InRange, number, placeOf}
-use Rattle.mesh.specs.Steps.{reversed}
+use Rattle.mesh.specs.Mesh.{X, Y, Z, InRange, number, placeOf}
+use Rattle.mesh.specs.Steps.{runsDown, reversed}
 use Rattle.mesh.specs.Cells.{Map, faultyCell, stateLength}
-use Rattle.mesh.specs.Marks.{rule, isWord, readAt}
+use Rattle.mesh.specs.Marks.{counted, rule, isWord, readAt}
 use Rattle.mesh.specs.declared.Sizes.{Sizes}
 use Rattle.field.specs.State.{own, heard, mapIn}
 use Rattle.field.specs.Sound.{faultyHears, freshHeard, freshOwn}
@@ -41,7 +41,36 @@ fits n b = eqb (bitOr b (bitAnd n 6)) n
 
 -- a heard byte b blocks for the mark that is worth `part` in a byte: 2, useless, or 4, can't-reach
 unfoldable pub hinders : ℕ → ℕ → Bool
-hinders part b = eqb (bitOr (b / part) b % 2) 1
+hinders part b = not (eqb (bitAnd b (part + 1)) 0)
+
+-- ---- six bytes in one number
+
+abbrev pub Bytes : (ℕ → ℕ) → Type 0
+Bytes f = (j : ℕ) → f j < 256
+
+-- n bytes, the first the lowest
+unfoldable pub packed : ℕ → (ℕ → ℕ) → ℕ
+packed zero f = 0
+packed (suc n) f = packed n (λ j. f (suc j)) * 256 + f 0
+
+-- a byte for each direction
+abbrev pub six : (ℕ → ℕ) → ℕ
+six f = packed 6 f
+
+-- a 1 for each direction
+abbrev pub ones : ℕ
+ones = 1103823438081
+
+-- n is c, but for a multiple of 255: so each byte of a number counts alike
+infix 4 _isBut255_
+abbrev pub _isBut255_ : ℕ → ℕ → Type 0
+n isBut255 c = (e : ℕ) × (n ≡ c + 255 * e)
+
+-- direction j is ahead on a counted axis
+abbrev pub looks : Sizes → ℕ → ℕ → Bool
+looks S o j = getD
+    (not (runsDown o X) ∷ runsDown o X ∷ not (runsDown o Y) ∷ runsDown o Y ∷ (not (runsDown o Z) && counted S Z) ∷ (runsDown o Z && counted S Z) ∷ [])
+    j false
 
 -- ---- one node
 

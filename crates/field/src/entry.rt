@@ -3,10 +3,10 @@ use crate::bytes::rule_byte;
 use crate::bytes::state_length;
 use crate::bytes::unfit;
 use crate::making::put_fresh;
-use crate::news::all_news;
 use crate::pairs::pair;
 use crate::pairs::says;
 use crate::scan::all_right;
+use crate::scan::scan;
 use mesh::Answer;
 use mesh::Numbered;
 use mesh::Refusal;
@@ -64,17 +64,28 @@ pub fn fresh(s: Sizes, cells: &[u8], orientation: usize, state: &mut [u8]) -> An
     a
 }
 
+// Refusals 1, 2 and 5, for a question about a state of so many bytes.
+fn check_question(s: Sizes, o: usize, long: usize) -> Answer
+    ensures { λ r. ⌜ r ≡ checkState s long andThen checkOrientation o ⌝ }
+{
+    let a = check_state(s, long);
+    let Answer::Done = a else {
+        return a;
+    };
+    if o > 7 {
+        return Answer::Refused(Refusal::BadNumber);
+    }
+    Answer::Done
+}
+
 // Is the state sound? Refusals 1, 2, 5 and 6.
 pub fn sound(s: Sizes, orientation: usize, state: &[u8]) -> Answer
     ensures { λ r. ⌜ r ≡ soundAnswer s orientation (now (state .entry)) ⌝ }
 {
-    let a = check_state(s, state.len());
+    let a = check_question(s, orientation, state.len());
     let Answer::Done = a else {
         return a;
     };
-    if orientation > 7 {
-        return Answer::Refused(Refusal::BadNumber);
-    }
     if !all_right(s, orientation, state) {
         return Answer::Refused(Refusal::Unsound);
     }
@@ -85,11 +96,11 @@ pub fn sound(s: Sizes, orientation: usize, state: &[u8]) -> Answer
 pub fn outstanding(s: Sizes, orientation: usize, state: &[u8]) -> Numbered
     ensures { λ r. ⌜ r ≡ outstandingAnswer s orientation (now (state .entry)) ⌝ }
 {
-    let a = sound(s, orientation, state);
+    let a = check_question(s, orientation, state.len());
     if let Answer::Refused(r) = a {
         return Numbered::NotNumbered(r);
     }
-    Numbered::Number(all_news(s, state))
+    scan(s, orientation, state)
 }
 
 // Is it a word: 0, 2, 4 or 6?

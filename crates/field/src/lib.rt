@@ -3,6 +3,6 @@
 pub mod bytes;
 pub mod entry;
 pub mod making;
-pub mod news;
 pub mod pairs;
 pub mod scan;
+pub mod six;

@@ -1,22 +1,33 @@
-// The test that a state is sound: a scan of its nodes in their order, row by row. Each step gives a byte that is 0 where nothing is wrong, so that
-// what a byte holds leads to no branch.
+// The one scan of a state: is it sound, and how many words are outstanding? The nodes in their order, row by row, each with six bytes at once, so
+// that what a byte holds leads to no branch.
 use crate::bytes::faulty_hears;
-use crate::bytes::rule_byte;
-use crate::bytes::unfit;
+use crate::six::ONES;
+use crate::six::heard;
+use crate::six::ruled;
+use crate::six::six;
+use crate::six::some;
+use mesh::Numbered;
 use mesh::Place;
+use mesh::Refusal;
 use mesh::Sizes;
 ghost use mathlib.Core.Path.{_≡_};
-ghost use mathlib.Core.Bool.{_&&_};
-ghost use Prim.Native.Nat.{_+_, _-_, _*_, _<_, _≤_};
+ghost use Prim.Native.Nat.{_+_, _*_, _<_, _≤_};
 ghost use lib.Dec.{eqb};
-ghost use Rattle.mesh.specs.Tools.{all};
-ghost use Rattle.mesh.specs.Mesh.{Inside, number, placeOf};
-ghost use Rattle.field.specs.State.{own, heard, mapIn};
-ghost use Rattle.field.specs.Sound.{faultyHears, sound};
-ghost use Rattle.field.specs.Scan.{Ready, Held, Near, fits, shownUp, shownDown, nodeTest, rowTest};
+ghost use Rattle.mesh.specs.Mesh.{Inside, number};
+ghost use Rattle.mesh.specs.Answers.{numbered, unless};
+ghost use Rattle.mesh.specs.declared.Refusal.the-variants.{Unsound};
+ghost use Rattle.field.specs.Sound.{sound};
+ghost use Rattle.field.specs.Hear.{outstanding};
+ghost use Rattle.field.specs.Scan.{Ready, Held, Near, Bytes, six, ones, shownUp, shownDown, shows, nodeTest, rowTest, nodeNews, rowNews, _isBut255_};
+
+// What is seen at a node, or in a row: 0 if all is right, and the words outstanding.
+pub struct Seen {
+    pub wrong: u64,
+    pub news: u64,
+}
 
 // What the neighbour with the next coordinate on an axis shows node k.
-pub fn shown_up(state: &[u8], k: usize, c: usize, n: usize, step: usize) -> u8
+fn shown_up(state: &[u8], k: usize, c: usize, n: usize, step: usize) -> u8
     requires { ⌜ (c < n) × Near (Held (now state)) k c n step ⌝ }
     ensures { λ r. ⌜ r ≡ shownUp (now (state .entry)) k c n step ⌝ }
 {
@@ -24,65 +35,87 @@ pub fn shown_up(state: &[u8], k: usize, c: usize, n: usize, step: usize) -> u8
 }
 
 // And the one with the coordinate before.
-pub fn shown_down(state: &[u8], k: usize, c: usize, n: usize, step: usize) -> u8
+fn shown_down(state: &[u8], k: usize, c: usize, n: usize, step: usize) -> u8
     requires { ⌜ Near (Held (now state)) k c n step ⌝ }
     ensures { λ r. ⌜ r ≡ shownDown (now (state .entry)) k c step ⌝ }
 {
     if 0 < c { state[7 * (k - step)] } else { 8 }
 }
 
-// 0 if what node k has heard on an axis, in directions j and j + 1, is right.
-fn axis_wrong(state: &[u8], k: usize, j: usize, c: usize, n: usize, step: usize) -> u8
-    requires { ⌜ (j < 5) × (c < n) × Near (Held (now state)) k c n step ⌝ }
-    ensures { λ r. ⌜ eqb r 0
-        ≡ (fits (shownUp (now (state .entry)) k c n step) (heard (now (state .entry)) k j)
-        && fits (shownDown (now (state .entry)) k c step) (heard (now (state .entry)) k (j + 1))) ⌝ }
+// What its neighbours show the node at p, whose number is k.
+fn shown(s: Sizes, state: &[u8], p: Place, k: usize) -> u64
+    requires { ⌜ Ready s (now state) × Inside s p × (k ≡ number s p) ⌝ }
+    ensures { λ r. ⌜ (r ≡ six (shows s (now (state .entry)) k)) × Bytes (shows s (now (state .entry)) k) ⌝ }
 {
-    let at = 7 * k + 1;
-    unfit(shown_up(state, k, c, n, step), state[at + j])
-        | unfit(shown_down(state, k, c, n, step), state[at + (j + 1)])
+    let layer = s.w * s.h;
+    let x = shown_up(state, k, p.x, s.w, 1);
+    let back_x = shown_down(state, k, p.x, s.w, 1);
+    let y = shown_up(state, k, p.y, s.h, s.w);
+    let back_y = shown_down(state, k, p.y, s.h, s.w);
+    let z = shown_up(state, k, p.z, s.d, layer);
+    let back_z = shown_down(state, k, p.z, s.d, layer);
+    six(x, back_x, y, back_y, z, back_z)
 }
 
-// 0 if node k holds what a faulty node does.
-fn loud(state: &[u8], k: usize) -> u8
-    requires { ⌜ Held (now state) k ⌝ }
-    ensures { λ r. ⌜ ((s : Sizes) → eqb r 0 ≡ all 6 λ j. eqb (heard (now (state .entry)) k j) (faultyHears (mapIn s (now (state .entry))) (placeOf s k) j)) ⌝ }
-{
-    let at = 7 * k + 1;
-    let none = faulty_hears();
-    let x = (state[at] ^ none) | (state[at + 1] ^ none);
-    let y = (state[at + 2] ^ none) | (state[at + 3] ^ none);
-    let z = (state[at + 4] ^ none) | (state[at + 5] ^ none);
-    x | y | z
-}
-
-// 0 if the node at p is right.
-fn node_wrong(s: Sizes, o: usize, state: &[u8], p: Place) -> u8
+// The node at p. The words outstanding come as a 1 for each direction.
+fn node(s: Sizes, o: usize, state: &[u8], p: Place) -> Seen
     requires { ⌜ Ready s (now state) × (o ≤ 7) × Inside s p ⌝ }
-    ensures { λ r. ⌜ eqb r 0 ≡ nodeTest s o (now (state .entry)) (number s p) ⌝ }
+    ensures { λ r. ⌜ (eqb (r .wrong) 0 ≡ nodeTest s o (now (state .entry)) (number s p))
+        × (r .news isBut255 nodeNews s (now (state .entry)) (number s p)) × (r .news ≤ ones) ⌝ }
 {
     let k = s.number(p);
     let own = state[7 * k];
-    let faulty = loud(state, k);
-    let x = axis_wrong(state, k, 0, p.x, s.w, 1);
-    let y = axis_wrong(state, k, 2, p.y, s.h, s.w);
-    let z = axis_wrong(state, k, 4, p.z, s.d, s.w * s.h);
-    let working = (own ^ rule_byte(s, o, state, k)) | (x | y | z);
-    if own == 1 { faulty } else { working }
+    let told = heard(state, k);
+    let said = shown(s, state, p, k);
+    let faulty = told ^ faulty_hears() as u64 * ONES;
+    let sides = (told | said & 6 * ONES) ^ said;
+    let wrong = own as u64 ^ ruled(s, o, told) as u64 | sides;
+    let news = some(said ^ told);
+    if own == 1 {
+        Seen {
+            wrong: faulty,
+            news: 0,
+        }
+    } else {
+        Seen { wrong, news }
+    }
 }
 
-// 0 if a row of nodes is right.
-fn row_wrong(s: Sizes, o: usize, state: &[u8], row: usize) -> u8
+// A row of nodes. The words outstanding are few enough to be counted by a remainder: each byte of six counts alike by 255.
+fn row(s: Sizes, o: usize, state: &[u8], row: usize) -> Seen
     requires { ⌜ Ready s (now state) × (o ≤ 7) × (row < s .h * s .d) ⌝ }
-    ensures { λ r. ⌜ eqb r 0 ≡ rowTest s o (now (state .entry)) row ⌝ }
+    ensures { λ r. ⌜ (eqb (r .wrong) 0 ≡ rowTest s o (now (state .entry)) row) × (r .news ≡ rowNews s (now (state .entry)) row) × (r .news ≤ 96) ⌝ }
 {
     let y = row % s.h;
     let z = row / s.h;
-    let mut wrong = 0u8;
+    let mut wrong = 0;
+    let mut news = 0;
     for x in 0..s.w {
-        wrong = node_wrong(s, o, state, Place { x, y, z }) | wrong;
+        let seen = node(s, o, state, Place { x, y, z });
+        wrong = seen.wrong | wrong;
+        news += seen.news;
     }
-    wrong
+    Seen {
+        wrong,
+        news: news % 255,
+    }
+}
+
+// All nodes: refusal 6, or how many words are outstanding.
+pub fn scan(s: Sizes, o: usize, state: &[u8]) -> Numbered
+    requires { ⌜ Ready s (now state) × (o ≤ 7) ⌝ }
+    ensures { λ r. ⌜ r ≡ numbered (unless (sound s o (now (state .entry))) Unsound) (outstanding s (now (state .entry))) ⌝ }
+{
+    let rows = s.h * s.d;
+    let mut news = 0;
+    for at in 0..rows {
+        let seen = row(s, o, state, at);
+        if seen.wrong != 0 {
+            return Numbered::NotNumbered(Refusal::Unsound);
+        }
+        news += seen.news as usize;
+    }
+    Numbered::Number(news)
 }
 
 // Is the state sound?
@@ -90,11 +123,9 @@ pub fn all_right(s: Sizes, o: usize, state: &[u8]) -> bool
     requires { ⌜ Ready s (now state) × (o ≤ 7) ⌝ }
     ensures { λ r. ⌜ r ≡ sound s o (now (state .entry)) ⌝ }
 {
-    let rows = s.h * s.d;
-    for row in 0..rows {
-        if row_wrong(s, o, state, row) != 0 {
-            return false;
-        }
+    if let Numbered::Number(n) = scan(s, o, state) {
+        true
+    } else {
+        false
     }
-    true
 }

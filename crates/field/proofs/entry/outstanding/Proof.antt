@@ -1,45 +1,44 @@
--- `field::entry::outstanding` meets its contract: the words are counted in a state that is sound. Assumes nothing.
-use mathlib.Core.Path.{_≡_, _∙_, sym, ap}
+-- `field::entry::outstanding` meets its contract: the scan is run where the checks before it are granted. Assumes nothing.
+use mathlib.Core.Path.{_≡_, _∙_, sym}
 use denote.Ref.{now}
+use lib.ListN.{length}
+use Rattle.mesh.specs.Answers.{_andThen_, checkOrientation}
 use Rattle.mesh.specs.declared.Answer.the-variants.{Done}
-use Rattle.mesh.specs.declared.Numbered.the-variants.{Number}
-use Rattle.field.specs.Entries.{soundAnswer, outstandingAnswer}
-use Rattle.field.proofs.Calls.{sound-passed}
-use Rattle.field.proofs.Counted.{news-is}
-use Rattle.field.proofs.Taken.{sound-ready}
+use Rattle.mesh.proofs.Answers.{split, orientation-granted}
+use Rattle.field.specs.Entries.{checkState, soundAnswer, outstandingAnswer}
+use Rattle.field.proofs.Taken.{ready}
 use borrow.Author.Needs.{needs}
 use Rattle.field.proofs.entry.outstanding.Statement.{statement}
 use Rattle.field.proofs.entry.outstanding.Tie as tie
 
-in-order : (c : tie.After-enum-told) → let a = c .before .before .before .before .args in soundAnswer (a .s) (a .orientation) (now (a .state)) ≡ Done
-in-order c = sym (c .before .before .sound .ensures) ∙ c .enum-told .given .1
+in-order : (c : tie.After-enum-told)
+    → let a = c .before .before .before .before .args in checkState (a .s) (length (now (a .state))) andThen checkOrientation (a .orientation) ≡ Done
+in-order c = sym (c .before .before .check-question .ensures) ∙ c .enum-told .given .1
 
-sound-requires : tie.Need-sound-requires
-sound-requires c κs = search needs
+check-question-requires : tie.Need-check-question-requires
+check-question-requires c κs = search needs
 
 enum-known-a : tie.Need-enum-known-a
 enum-known-a c = search needs
 
 returns : tie.Need-returns
-unfolding outstandingAnswer
-returns c = rw (sym (c .before .before .before .sound .ensures) ∙ c .before .a .given .1)
+unfolding outstandingAnswer soundAnswer
+returns c = rw (sym (c .before .before .before .check-question .ensures) ∙ c .before .a .given .1)
 
 enum-told : tie.Need-enum-told
 enum-told c = search needs
 
-all-news-requires : tie.Need-all-news-requires
-all-news-requires c κs =
+scan-requires : tie.Need-scan-requires
+scan-requires c κs =
     let a = c .before .before .before .before .args in
-    sound-ready (a .s) (a .orientation) (now (a .state)) (in-order c)
+    let (e, f) = split (checkState (a .s) (length (now (a .state)))) (checkOrientation (a .orientation)) (in-order c) in
+    (ready (a .s) (now (a .state)) e, orientation-granted (a .orientation) f)
 
 returns-2 : tie.Need-returns-2
-unfolding outstandingAnswer
-returns-2 c =
-    let t = c .before in
-    let a = t .before .before .before .before .args in
-    let z = sound-passed (a .s) (a .orientation) (now (a .state)) .0 (in-order t) .1 in
-    rw (in-order t) (ap Number (c .all-news .ensures ∙ news-is (a .s) (a .orientation) (now (a .state)) z))
+unfolding outstandingAnswer soundAnswer
+returns-2 c = c .scan .ensures ∙ (rw (in-order (c .before)))
 
 pub outstanding-spec : {M : Type 1} → statement M
 outstanding-spec =
-    tie.close (tie.spec sound-requires enum-known-a returns enum-told all-news-requires returns-2)
+    tie.close
+    (tie.spec check-question-requires enum-known-a returns enum-told scan-requires returns-2)

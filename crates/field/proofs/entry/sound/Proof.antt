@@ -1,21 +1,23 @@
--- `field::entry::sound` meets its contract: each check is run where those before it are granted. Assumes nothing.
+-- `field::entry::sound` meets its contract: the scan is run where the checks before it are granted. Assumes nothing.
 use mathlib.Core.Path.{_≡_, _∙_, sym}
-use native.Mathlib.Omega.{arith}
-use borrow.Author.Tests.{not-true, not-false, le-leb, lt-leb}
+use borrow.Author.Tests.{not-true, not-false}
 use denote.Ref.{now}
 use lib.ListN.{length}
+use Rattle.mesh.specs.Answers.{_andThen_, checkOrientation}
 use Rattle.mesh.specs.declared.Answer.the-variants.{Done}
+use Rattle.mesh.proofs.Answers.{split, orientation-granted}
 use Rattle.field.specs.Entries.{checkState, soundAnswer}
 use Rattle.field.proofs.Taken.{ready}
 use borrow.Author.Needs.{needs}
 use Rattle.field.proofs.entry.sound.Statement.{statement}
 use Rattle.field.proofs.entry.sound.Tie as tie
 
-in-order : (c : tie.After-enum-told) → let a = c .before .before .before .before .args in checkState (a .s) (length (now (a .state))) ≡ Done
-in-order c = sym (c .before .before .check-state .ensures) ∙ c .enum-told .given .1
+in-order : (c : tie.After-enum-told)
+    → let a = c .before .before .before .before .args in checkState (a .s) (length (now (a .state))) andThen checkOrientation (a .orientation) ≡ Done
+in-order c = sym (c .before .before .check-question .ensures) ∙ c .enum-told .given .1
 
-check-state-requires : tie.Need-check-state-requires
-check-state-requires c κs = search needs
+check-question-requires : tie.Need-check-question-requires
+check-question-requires c κs = search needs
 
 enum-told : tie.Need-enum-told
 enum-told c = search needs
@@ -25,38 +27,30 @@ enum-told-2 c = search needs
 
 returns : tie.Need-returns
 unfolding soundAnswer
-returns c = let e = c .enum-told2 .given .1 in e ∙ (rw (sym (c .before .before .check-state .ensures) ∙ e))
-
-returns-2 : tie.Need-returns-2
-unfolding soundAnswer
-returns-2 c = rw (in-order (c .before), lt-leb _ 7 (c .if1 .taken))
+returns c = let e = c .enum-told2 .given .1 in e ∙ (rw (sym (c .before .before .check-question .ensures) ∙ e))
 
 all-right-requires : tie.Need-all-right-requires
 all-right-requires c κs =
-    let a = c .before .before .before .before .before .args in
-    (ready (a .s) (now (a .state)) (in-order (c .before)), omega arith)
+    let a = c .before .before .before .before .args in
+    let (e, f) = split (checkState (a .s) (length (now (a .state)))) (checkOrientation (a .orientation)) (in-order c) in
+    (ready (a .s) (now (a .state)) e, orientation-granted (a .orientation) f)
+
+returns-2 : tie.Need-returns-2
+unfolding soundAnswer
+returns-2 c = let r = c .before in rw (in-order (r .before), sym (r .all-right .ensures) ∙ not-true _ (c .if1 .taken))
 
 returns-3 : tie.Need-returns-3
 unfolding soundAnswer
-returns-3 c =
-    let r = c .before in
-    rw (in-order (r .before .before), le-leb _ 7 (r .before .if1 .left), sym (r .all-right .ensures) ∙ not-true _ (c .if2 .taken))
-
-returns-4 : tie.Need-returns-4
-unfolding soundAnswer
-returns-4 c =
-    let r = c .before in
-    rw (in-order (r .before .before), le-leb _ 7 (r .before .if1 .left), sym (r .all-right .ensures) ∙ not-false _ (c .if2 .left))
+returns-3 c = let r = c .before in rw (in-order (r .before), sym (r .all-right .ensures) ∙ not-false _ (c .if1 .left))
 
 pub sound-spec : {M : Type 1} → statement M
 sound-spec =
     tie.close
     (tie.spec
-    check-state-requires
+    check-question-requires
     enum-told
     enum-told-2
     returns
-    returns-2
     all-right-requires
-    returns-3
-    returns-4)
+    returns-2
+    returns-3)

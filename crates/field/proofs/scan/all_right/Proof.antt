@@ -1,80 +1,39 @@
--- `field::scan::all_right` meets its contract: the rows so far are right, and a row that is not makes the state unsound. Assumes nothing.
-use mathlib.Core.Path.{_≡_, refl, sym, _∙_, ap}
-use mathlib.Core.Bool.{true, false}
-use Prim.Native.Nat.{ℕ, _-_, _*_, _≤_}
+-- `field::scan::all_right` meets its contract: the scan gives a number where the state is sound. Assumes nothing.
+use mathlib.Core.Path.{_≡_, refl, sym, _∙_}
+use mathlib.Core.Bool.{Bool, true, false}
+use Prim.Native.Nat.{ℕ}
 use native.Mathlib.Omega.{arith}
-use borrow.Author.Tests.{eq-eqb, ne-eqb}
-use denote.Ref.{now}
-use Rattle.mesh.specs.Tools.{all}
-use Rattle.mesh.proofs.Tests.{all-more, all-fails}
-use Rattle.mesh.proofs.Numbers.{rows-le}
-use Rattle.field.specs.Scan.{rowTest}
-use Rattle.field.proofs.Scanned.{scan-is}
+use Rattle.mesh.specs.Answers.{numbered, unless}
+use Rattle.mesh.specs.declared.Refusal.{Refusal}
+use Rattle.mesh.specs.declared.Numbered.the-variants.{Number, NotNumbered}
+use borrow.Author.Needs.{needs}
 use Rattle.field.proofs.scan.all_right.Statement.{statement}
 use Rattle.field.proofs.scan.all_right.Tie as tie
 
-abbrev Inv-loop : tie.InvT-loop
-Inv-loop s o state rows row₀ row = (row ≤ rows) × (all row (rowTest s o state) ≡ true)
+given : (t : Bool) (r : Refusal) (n k : ℕ) → Number k ≡ numbered (unless t r) n → true ≡ t
+given true r n k e = refl
+given false r n k e = let z : _≡_ {A = ℕ} 0 1 = cc in absurd (omega arith)
 
-abbrev μ-loop : tie.MeasureT-loop
-μ-loop s o state rows row₀ row = rows - row
+refused : (t : Bool) (r q : Refusal) (n : ℕ) → NotNumbered q ≡ numbered (unless t r) n → false ≡ t
+refused false r q n e = refl
+refused true r q n e = let z : _≡_ {A = ℕ} 0 1 = cc in absurd (omega arith)
 
-mul-rows : tie.Need-mul-rows Inv-loop μ-loop
-mul-rows c = let s = c .before .before in omega (arith, rows-le (s .args .s) (s .pre .0 .sized))
+scan-requires : tie.Need-scan-requires
+scan-requires c κs = search needs
 
-loop-holds : tie.Need-loop-holds Inv-loop μ-loop
-unfolding all
-loop-holds c = (omega arith, refl)
+enum-known-n : tie.Need-enum-known-n
+enum-known-n c = search needs
 
-row-wrong-requires : tie.Need-row-wrong-requires Inv-loop μ-loop
-row-wrong-requires c κs = let s = c .before .before .before .before in (s .pre .0, s .pre .1, omega arith)
+enum-told : tie.Need-enum-told
+enum-told c = search needs
 
-returns : tie.Need-returns Inv-loop μ-loop
+returns : tie.Need-returns
 returns c =
-    let r = c .before in
-    let s = r .before .before .before .before .before in
-    let a = s .args in
-    let rows = rowTest (a .s) (a .o) (now (a .state)) in
-    let bad : rows (r .before .before .loop .row) ≡ false = sym (r .row-wrong .ensures) ∙ ne-eqb (r .row-wrong .result) 0 (c .if1 .taken) in
-    sym (all-fails (a .s .h * a .s .d) rows (r .before .before .loop .row) (omega arith) bad) ∙ scan-is (a .s) (a .o) (now (a .state)) (s .pre .0 .long)
+    let n = c .before in
+    given _ _ _ _ (sym (n .n .given .1) ∙ n .before .before .scan .ensures)
 
-add-row : tie.Need-add-row Inv-loop μ-loop
-add-row c =
-    let s = c .before .before .before .before .before .before in
-    omega (arith, rows-le (s .args .s) (s .pre .0 .sized))
-
-loop-less : tie.Need-loop-less Inv-loop μ-loop
-loop-less c = omega arith
-
-loop-again : tie.Need-loop-again Inv-loop μ-loop
-loop-again c =
-    let r = c .before in
-    let l = r .before .before .loop in
-    let a = r .before .before .before .before .before .args in
-    let rows = rowTest (a .s) (a .o) (now (a .state)) in
-    let good : rows (l .row) ≡ true = sym (r .row-wrong .ensures) ∙ eq-eqb (r .row-wrong .result) 0 (c .if1 .left) in
-    (omega arith, all-more (l .row) rows ∙ (rw (good, l .inv .1)))
-
-returns-2 : tie.Need-returns-2 Inv-loop μ-loop
-returns-2 c =
-    let l = c .before .loop in
-    let s = c .before .before .before .before in
-    let a = s .args in
-    let rows = rowTest (a .s) (a .o) (now (a .state)) in
-    let e : l .row ≡ a .s .h * a .s .d = omega arith in
-    sym (l .inv .1) ∙ ap (λ (n : ℕ). all n rows) e ∙ scan-is (a .s) (a .o) (now (a .state)) (s .pre .0 .long)
+returns-2 : tie.Need-returns-2
+returns-2 c = refused _ _ _ _ (sym (c .enum-told .given .1) ∙ c .before .before .scan .ensures)
 
 pub all-right-spec : {M : Type 1} → statement M
-all-right-spec =
-    tie.close
-    (tie.spec
-    Inv-loop
-    μ-loop
-    mul-rows
-    loop-holds
-    row-wrong-requires
-    returns
-    add-row
-    loop-less
-    loop-again
-    returns-2)
+all-right-spec = tie.close (tie.spec scan-requires enum-known-n enum-told returns returns-2)
