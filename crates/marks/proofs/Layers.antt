@@ -1,95 +1,128 @@
--- A layer row by row, and the mesh layer by layer: one law for both. Assumes nothing.
-use mathlib.Core.Path.{_≡_, refl, ap, _∙_}
-use mathlib.Core.Bool.{Bool, true, false}
-use mathlib.Core.Logic.{_⊎_, inl, inr}
+-- A layer row by row, and the mesh layer by layer. Where the edge lies ahead, the faulty nodes are all that is shut. Assumes nothing.
+use mathlib.Core.Path.{_≡_, refl, sym, ap, _∙_, subst}
+use mathlib.Core.Bool.{Bool, true, false, _&&_, _||_}
 use mathlib.Core.List.{List}
-use Prim.Native.Nat.{ℕ, suc, _+_, _-_, _*_, _<_}
+use Prim.Native.Nat.{ℕ, zero, suc, _+_, _-_, _*_, _<_, _≤_}
 use native.Mathlib.Omega.{arith}
-use native.Mathlib.Nat.{eq-or-lt-of-le, le-of-suc-le-suc}
-use native.Mathlib.Numerals.{add-one}
-use borrow.Author.Tests.{lt-ltb, le-ltb, le-leb, leb-true, leb-false}
-use lib.ListN.{length, getD}
+use native.Mathlib.Nat.{mul-suc, mul-add, mul-one, mul-le-mul-left}
+use borrow.Author.Tests.{ltb-true, ltb-false, le-leb, leb-true, leb-false}
+use lib.ListN.{getD}
 use lib.Dec.{ltb, leb}
-use Rattle.mesh.specs.Tools.{bit, implies}
-use Rattle.mesh.specs.Mesh.{InRange, Inside}
-use Rattle.mesh.specs.Cells.{Map}
+use Rattle.mesh.specs.Tools.{bit}
+use Rattle.mesh.specs.Mesh.{place, nodes, number, InRange, Inside}
+use Rattle.mesh.specs.Cells.{Map, faulty, faultyCell}
 use Rattle.mesh.specs.Fill.{Filled}
+use Rattle.mesh.specs.Marks.{toGo, shut}
+use Rattle.mesh.specs.declared.Sizes.{Sizes}
 use Rattle.mesh.specs.declared.Place.{Place}
-use Rattle.marks.specs.Sweep.{Layer, Swept, Stretch, inRow, inRows, inLayers}
-use Rattle.marks.proofs.Rows.{next-row, rows-room}
+use Rattle.mesh.proofs.Bits.{bit-le}
+use Rattle.mesh.proofs.Numbers.{digit-eq, number-lt}
+use Rattle.mesh.proofs.Left.{to-go-in}
+use Rattle.marks.specs.Sweep.{Right, rowsBefore, Swept, Stretch}
+use Rattle.marks.proofs.Rows.{withLeft, aheadY, aheadZ, shut-row}
 
-last-or : (i n : ℕ) → i < n + 1 → (i ≡ n) ⊎ (i < n)
-last-or i n l = eq-or-lt-of-le (le-of-suc-le-suc (rw add-one at l))
+pub two-rows : (S : Sizes) → InRange S → S .w + S .w ≤ S .w * S .h
+two-rows S r = let e : S .w * 2 ≡ S .w + S .w = omega arith in rw (← e) (mul-le-mul-left (S .w) (r .h-lo))
 
--- an axis that does not count blocks always, one that counts has an edge that blocks nothing
-uncounted : (n : ℕ) → ltb n 2 ≡ implies (leb 2 n) false
-uncounted n = go (leb 2 n) refl
-  where
-    go : (t : Bool) → leb 2 n ≡ t → ltb n 2 ≡ implies t false
-    go true e = le-ltb n 2 (leb-true 2 n e)
-    go false e = lt-ltb n 2 (leb-false 2 n e)
+-- all rows of a layer
+pub rows-all : (h b c : ℕ) → b ≡ h → b + h * c ≡ h * (c + 1)
+rows-all h b c e =
+    let q : h * (c + 1) ≡ h * c + h = mul-add h c 1 ∙ ap (λ (j : ℕ). h * c + j) (mul-one h) in
+    omega arith
 
-module _ (m : Map) (o : ℕ) where
-  swept-none : (own : Place → Type 0) (old : List ℕ) → ((s : Place) → own s → ⊥) → Swept m o own old old
-  swept-none own old none = record { right = λ s i p. absurd (none s p); safe = λ s i r. r; kept = λ k h. refl }
+-- ---- rows that hold what is shut already
 
-  -- one stretch after another
-  swept-more : (first then both : Place → Type 0) (old mid new : List ℕ)
-      → ((s : Place) → Inside (m .sizes) s → both s → then s ⊎ first s)
-      → Swept m o first old mid → Swept m o then mid new → Swept m o both old new
-  swept-more first then both old mid new cases A B = record {
-    right = λ s i p. elim (cases s i p) [ inl q ↦ B .right s i q | inr q ↦ B .safe s i (A .right s i q) ];
-    safe = λ s i r. B .safe s i (A .safe s i r);
-    kept = λ k h. B .kept k h ∙ A .kept k h;
+last-false : (f x y : Bool) → f || (x && y && false) ≡ f
+last-false true x y = refl
+last-false false true true = refl
+last-false false true false = refl
+last-false false false y = refl
+
+mid-false : (f x z : Bool) → f || (x && false && z) ≡ f
+mid-false true x z = refl
+mid-false false true z = refl
+mid-false false false z = refl
+
+module _ (m : Map) (o : ℕ) (sized : InRange (m .sizes)) where
+  abbrev h : ℕ
+  h = m .sizes .h
+
+  -- only faulty nodes are shut
+  abbrev pub Bare : Place → Type 0
+  Bare s = shut m o (toGo (m .sizes) o s) ≡ faulty m (toGo (m .sizes) o s)
+
+  -- there a row is swept without a turn
+  pub swept-on : (n k : ℕ) (l : List ℕ) → n ≤ k → Swept m o n l
+      → ((s : Place) → Inside (m .sizes) s → n ≤ rowsBefore (m .sizes) s → rowsBefore (m .sizes) s < k → Bare s)
+      → Swept m o k l
+  swept-on n k l le A bare = record {
+    right = λ s i b. go s i b (ltb (rowsBefore (m .sizes) s) n) refl;
+    fresh = λ s i b. A .fresh s i (omega arith);
+  }
+    where
+      go : (s : Place) → Inside (m .sizes) s → rowsBefore (m .sizes) s < k → (t : Bool) → ltb (rowsBefore (m .sizes) s) n ≡ t → Right m o l s
+      go s i b true e = A .right s i (ltb-true (rowsBefore (m .sizes) s) n e)
+      go s i b false e =
+          let q = ltb-false (rowsBefore (m .sizes) s) n e in
+          A .fresh s i q ∙ ap bit (sym (bare s i q b))
+
+  -- the edge on Y, and on Z where it counts
+  pub edge-y : (a c : ℕ) → Inside (m .sizes) (place a 0 c) → Bare (place a 0 c)
+  edge-y a c i = shut-row m o sized a 0 c i
+      ∙ mid-false (faulty m (withLeft m o a 0 c)) (ltb 0 a && shut m o (withLeft m o (a - 1) 0 c)) (aheadZ m o a 0 c)
+
+  edge-z : 2 ≤ m .sizes .d → (a b : ℕ) → Inside (m .sizes) (place a b 0) → Bare (place a b 0)
+  edge-z deep a b i = shut-row m o sized a b 0 i
+      ∙ (rw (le-leb 2 (m .sizes .d) deep)
+      (last-false (faulty m (withLeft m o a b 0)) (ltb 0 a && shut m o (withLeft m o (a - 1) b 0)) (aheadY m o a b 0)))
+
+  -- the first row of a layer
+  pub rows-first : (c : ℕ) (l : List ℕ) → Swept m o (h * c) l → Swept m o (1 + h * c) l
+  rows-first c l A = swept-on (h * c) (1 + h * c) l (omega arith) A λ s i q r.
+      let e : s .y ≡ 0 = digit-eq h (s .y) 0 (s .z) c (i .y-in) (omega (arith, sized .h-lo)) (omega arith) .0 in
+      subst (λ (b : ℕ). Inside (m .sizes) (place (s .x) b (s .z)) → Bare (place (s .x) b (s .z))) (sym e) (edge-y (s .x) (s .z)) i
+
+  -- the first layer
+  pub layers-first : (n : ℕ) (l : List ℕ) → n ≡ bit (leb 2 (m .sizes .d)) → Swept m o 0 l → Swept m o (h * n) l
+  layers-first n l e A = swept-on 0 (h * n) l (omega arith) A λ s i q r. go s i r (leb 2 (m .sizes .d)) refl
+    where
+      low : (s : Place) (z : ℕ) → s .y + h * z < h * 1 → z ≡ 0
+      low s zero b = refl
+      low s (suc z) b = absurd (omega (arith, mul-suc h z))
+
+      go : (s : Place) → Inside (m .sizes) s → rowsBefore (m .sizes) s < h * n → (t : Bool) → leb 2 (m .sizes .d) ≡ t → Bare s
+      go s i r true d =
+          let one : n ≡ 1 = e ∙ (rw d) in
+          let z : s .z ≡ 0 = low s (s .z) (rw one at r) in
+          subst (λ (c : ℕ). Inside (m .sizes) (place (s .x) (s .y) c) → Bare (place (s .x) (s .y) c)) (sym z)
+          (edge-z (leb-true 2 (m .sizes .d) d) (s .x) (s .y)) i
+      go s i r false d =
+          let none : n ≡ 0 = e ∙ (rw d) in
+          let r0 : rowsBefore (m .sizes) s < h * 0 = rw none at r in
+          absurd (omega arith)
+
+  -- there is a layer at least
+  pub edge-le : (n : ℕ) → n ≡ bit (leb 2 (m .sizes .d)) → n ≤ m .sizes .d
+  edge-le n e = let b = bit-le (leb 2 (m .sizes .d)) in omega (arith, sized .d-lo)
+
+  -- a layer after the first
+  pub flat-first : (n c : ℕ) → n ≡ bit (leb 2 (m .sizes .d)) → n ≤ c → c ≡ 0 → m .sizes .d < 2
+  flat-first n c e le z = go (leb 2 (m .sizes .d)) refl
+    where
+      go : (t : Bool) → leb 2 (m .sizes .d) ≡ t → m .sizes .d < 2
+      go true d = let one : n ≡ 1 = e ∙ (rw d) in absurd (omega arith)
+      go false d = leb-false 2 (m .sizes .d) d
+
+  -- the map as it is laid: nothing is swept
+  pub laid : (old l : List ℕ) → Filled (λ i. i) (λ i. bit (faultyCell (getD (m .cells) i 0))) old l (nodes (m .sizes)) → Stretch m o 0 old l
+  laid old l F = record {
+    swept = record {
+      right = λ s i b. absurd (omega arith);
+      fresh = λ s i b. F .at (number (m .sizes) (toGo (m .sizes) o s)) (number-lt (m .sizes) (toGo (m .sizes) o s) (to-go-in (m .sizes) o s i));
+    };
+    kept = λ k b. F .kept k (λ i l e. omega arith);
   }
 
-  -- ---- rows
-
-  pub rows-none : (c : ℕ) (rows out : List ℕ) → Layer m o c 0 rows → Stretch m o c 0 (inRows 0 c) rows out out
-  rows-none c rows out L = record { layer = L; bytes = swept-none _ out (λ s p. absurd (omega arith)) }
-
-  pub rows-more : (c b : ℕ) (rows rows′ old mid new : List ℕ) → Stretch m o c b (inRows b c) rows old mid
-      → Stretch m o c (b + 1) (inRow b c) rows′ mid new → Stretch m o c (b + 1) (inRows (b + 1) c) rows′ old new
-  rows-more c b rows rows′ old mid new A B = record {
-    layer = B .layer;
-    bytes = swept-more _ _ _ old mid new (λ s i p. elim (last-or (s .y) b (p .0)) [ inl e ↦ inl (e, p .1) | inr l ↦ inr (l, p .1) ]) (A .bytes) (B .bytes);
-  }
-
-  -- ---- layers
-
-  pub layers-none : (out : List ℕ) → Swept m o (inLayers 0) out out
-  layers-none out = swept-none _ out (λ s p. absurd (omega arith))
-
-  pub layers-more : (c : ℕ) (rows old mid new : List ℕ) → Swept m o (inLayers c) old mid
-      → Stretch m o c (m .sizes .h) (inRows (m .sizes .h) c) rows mid new → Swept m o (inLayers (c + 1)) old new
-  layers-more c rows old mid new A B = swept-more _ _ _ old mid new
-      (λ s i p. elim (last-or (s .z) c p) [ inl e ↦ inl (i .y-in, e) | inr l ↦ inr l ])
-      A
-      (B .bytes)
-
-  -- ahead of the first layer
-  pub layer-first : (before rows : List ℕ) (v : ℕ) → InRange (m .sizes) → (length before ≡ 272) × ((i : ℕ) → i < 272 → getD before i 0 ≡ v)
-      → v ≡ bit (ltb (m .sizes .d) 2) → Filled (λ i. i) (λ i. 0) before rows (m .sizes .w) → Layer m o 0 0 rows
-  layer-first before rows v r known e F = record {
-    long = F .size ∙ known .0;
-    edge = λ a l. let q : a + m .sizes .w * 0 ≡ a = omega arith in rw q (F .at a l);
-    done = λ a b h k. absurd (omega arith);
-    ahead = λ a b l h k.
-        let fits = rows-room (m .sizes) r b k in
-        let row = next-row (m .sizes .w) b a in
-        F .kept (a + m .sizes .w * suc b) (λ i n q. omega arith)
-        ∙ known .1 (a + m .sizes .w * suc b) (omega arith)
-        ∙ e
-        ∙ ap bit (uncounted (m .sizes .d));
-  }
-
-  -- a layer that is done lies ahead on Z of the next one
-  pub layer-next : (c : ℕ) (rows : List ℕ) → c + 1 < m .sizes .d → Layer m o c (m .sizes .h) rows → Layer m o (c + 1) 0 rows
-  layer-next c rows l L = record {
-    long = L .long;
-    edge = L .edge;
-    done = λ a b h k. absurd (omega arith);
-    ahead = λ a b h k n.
-        let e : c + 1 - 1 ≡ c = omega arith in
-        rw (le-leb 2 (m .sizes .d) (omega arith), lt-ltb 0 (c + 1) (omega arith), e) (L .done a b h n);
-  }
+-- one stretch after another
+pub stretch-more : (m : Map) (o n k : ℕ) (old mid new : List ℕ) → Stretch m o n old mid → Stretch m o k mid new → Stretch m o k old new
+stretch-more m o n k old mid new A B = record { swept = B .swept; kept = λ i l. B .kept i l ∙ A .kept i l }

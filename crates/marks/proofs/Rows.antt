@@ -1,137 +1,182 @@
 -- A row that is swept with the rows ahead of it holds what is shut: 01's rule at each of its nodes, in steps left. Assumes nothing.
-use mathlib.Core.Path.{_≡_, refl, sym, ap, _∙_, subst}
-use mathlib.Core.Bool.{Bool, _&&_, _||_}
+use mathlib.Core.Path.{_≡_, refl, sym, ap, _∙_}
+use mathlib.Core.Bool.{Bool, true, false, _&&_, _||_}
+use mathlib.Core.Logic.{_⊎_, inl, inr}
 use mathlib.Core.List.{List}
 use Prim.Native.Nat.{ℕ, zero, suc, _+_, _-_, _*_, _<_, _≤_}
 use native.Mathlib.Omega.{arith}
-use native.Mathlib.Nat.{mul-suc, mul-le-mul}
-use borrow.Author.Count.{below-more}
-use borrow.Author.Tests.{lt-ltb, le-leb}
-use lib.ListN.{getD}
+use native.Mathlib.Nat.{mul-suc, eq-or-lt-of-le}
+use borrow.Author.Tests.{lt-ltb, le-leb, lt-leb}
+use lib.ListN.{length, getD}
 use lib.Dec.{ltb}
-use Rattle.mesh.specs.Tools.{bit, one}
+use Rattle.mesh.specs.Tools.{bit, one, implies}
 use Rattle.mesh.specs.Mesh.{X, Y, Z, place, nodes, number, InRange, Inside}
 use Rattle.mesh.specs.Steps.{runsDown}
 use Rattle.mesh.specs.Cells.{Map, faulty, faultyCell}
-use Rattle.mesh.specs.Marks.{flip, toGo, shut}
+use Rattle.mesh.specs.Marks.{counted, flip, toGo, shut}
 use Rattle.mesh.proofs.Bits.{bit-one, bit-le}
 use Rattle.mesh.proofs.Numbers.{room, digit-lt, digit-eq, number-lt, number-eq}
-use Rattle.mesh.proofs.Left.{flip-lt, to-go-in}
+use Rattle.mesh.proofs.Left.{flip-lt, to-go-in, to-go-back}
 use Rattle.mesh.proofs.Marks.{shut-step}
-use Rattle.mesh.proofs.Fill.{fill-safe}
-use Rattle.mesh.specs.declared.Sizes.{Sizes}
 use Rattle.mesh.specs.declared.Place.{Place}
-use Rattle.marks.specs.Sweep.{Bits, rowOf, rowAt, Row, withLeft, aheadZ, Layer, Swept, Stretch, inRow}
+use Rattle.marks.specs.Sweep.{rowOf, rowAt, Row, Ahead, Right, rowsBefore, Swept, Stretch}
 use Rattle.marks.proofs.Turns.{or-false}
 
--- the rows of `rows`: the one after the row at w * b, and the last one ends in time
-pub next-row : (w b a : ℕ) → a + w * b + w ≡ a + w * suc b
-next-row w b a = omega (arith, mul-suc w b)
+-- the rows of the layer before
+pub rows-layer : (h b c : ℕ) → 0 < c → b + h * (c - 1) + h ≡ b + h * c
+rows-layer h b zero l = absurd (omega arith)
+rows-layer h b (suc c) l =
+    let e : suc c - 1 ≡ c = omega arith in
+    rw e (omega (arith, mul-suc h c))
 
-pub rows-room : (S : Sizes) → InRange S → (b : ℕ) → b < S .h → S .w + S .w * b + S .w ≤ 272
-rows-room S r b h =
-    let l : suc b ≤ 16 = omega (arith, r .h-hi) in
-    let q : S .w * suc b ≤ 256 = mul-le-mul (r .w-hi) l in
-    omega (arith, next-row (S .w) b 0, r .w-hi)
+pub none-or : (n : ℕ) → (n ≡ 0) ⊎ (0 < n)
+none-or zero = inl refl
+none-or (suc n) = inr (omega arith)
 
-module _ (m : Map) (o b c : ℕ) (sized : InRange (m .sizes)) (hb : b < m .sizes .h) (hc : c < m .sizes .d) where
+pub last-or : (i n : ℕ) → i < n + 1 → (i ≡ n) ⊎ (i < n)
+last-or i n l = eq-or-lt-of-le (omega arith)
+
+twice : (t y : Bool) → t && y && y ≡ t && y && true
+twice true true = refl
+twice true false = refl
+twice false y = refl
+
+-- one step less is another coordinate
+flip-off : (down : Bool) (n b : ℕ) → 0 < b → b < n → flip down n (b - 1) ≡ flip down n b → ⊥
+flip-off true n b s l e = omega arith
+flip-off false n b s l e = omega arith
+
+-- the place with a, b and c steps left
+abbrev pub withLeft : Map → ℕ → ℕ → ℕ → ℕ → Place
+withLeft m o a b c = toGo (m .sizes) o (place a b c)
+
+-- what lies ahead on Y and Z: "a neighbour beyond the mesh's edge blocks nothing", an axis that does not count blocks always
+abbrev pub aheadY : Map → ℕ → ℕ → ℕ → ℕ → Bool
+aheadY m o a b c = ltb 0 b && shut m o (withLeft m o a (b - 1) c)
+
+abbrev pub aheadZ : Map → ℕ → ℕ → ℕ → ℕ → Bool
+aheadZ m o a b c = implies (counted (m .sizes) Z) (ltb 0 c && shut m o (withLeft m o a b (c - 1)))
+
+module _ (m : Map) (o : ℕ) (sized : InRange (m .sizes)) where
   abbrev w : ℕ
   w = m .sizes .w
+
+  abbrev h : ℕ
+  h = m .sizes .h
 
   abbrev down : Bool
   down = runsDown o X
 
-  -- the number of the row's first node
-  abbrev pub first : ℕ
-  first = w * (flip (runsDown o Y) (m .sizes .h) b + m .sizes .h * flip (runsDown o Z) (m .sizes .d) c)
+  -- the number of a row's first node
+  abbrev pub first : ℕ → ℕ → ℕ
+  first b c = w * (flip (runsDown o Y) h b + h * flip (runsDown o Z) (m .sizes .d) c)
 
-  pub first-room : w + first ≤ nodes (m .sizes)
-  first-room = room w (digit-lt (flip-lt (runsDown o Y) (m .sizes .h) b hb) (flip-lt (runsDown o Z) (m .sizes .d) c hc))
-
-  abbrev aheadY : ℕ → Bool
-  aheadY a = ltb 0 b && shut m o (withLeft m o a (b - 1) c)
-
-  here-in : (a : ℕ) → a < w → Inside (m .sizes) (place a b c)
-  here-in a l = record { x-in = l; y-in = hb; z-in = hc }
+  pub first-room : (b c : ℕ) → b < h → c < m .sizes .d → w + first b c ≤ nodes (m .sizes)
+  first-room b c hb hc = room w (digit-lt (flip-lt (runsDown o Y) h b hb) (flip-lt (runsDown o Z) (m .sizes .d) c hc))
 
   -- 01's rule: X and Y always count
-  shut-row : (a : ℕ) → a < w
+  pub shut-row : (a b c : ℕ) → Inside (m .sizes) (place a b c)
       → shut m o (withLeft m o a b c)
-      ≡ faulty m (withLeft m o a b c) || ((ltb 0 a && shut m o (withLeft m o (a - 1) b c)) && aheadY a && aheadZ m o a b c)
-  shut-row a l = shut-step m o (place a b c) (here-in a l) ∙ (rw (le-leb 2 w (sized .w-lo), le-leb 2 (m .sizes .h) (sized .h-lo)))
+      ≡ faulty m (withLeft m o a b c) || ((ltb 0 a && shut m o (withLeft m o (a - 1) b c)) && aheadY m o a b c && aheadZ m o a b c)
+  shut-row a b c i = shut-step m o (place a b c) i ∙ (rw (le-leb 2 w (sized .w-lo), le-leb 2 h (sized .h-lo)))
 
-  rows-are : (f y z : ℕ → Bool) → ((a : ℕ) → a < w → f a ≡ faulty m (withLeft m o a b c)) → ((a : ℕ) → a < w → y a ≡ aheadY a)
-      → ((a : ℕ) → a < w → z a ≡ aheadZ m o a b c) → (a : ℕ) → a < w → rowOf f y z a ≡ shut m o (withLeft m o a b c)
-  unfolding rowOf
-  rows-are f y z ef ey ez zero l = ef 0 l ∙ sym (shut-row 0 l ∙ or-false (faulty m (withLeft m o 0 b c)))
-  rows-are f y z ef ey ez (suc a) l =
-      let e : suc a - 1 ≡ a = omega arith in
-      rw (rows-are f y z ef ey ez a (omega arith), ef (suc a) l, ey (suc a) l, ez (suc a) l)
-      (sym (shut-row (suc a) l ∙ (rw (lt-ltb 0 (suc a) (omega arith), e))))
+  -- nodes of one number have the same steps left
+  pub left-eq : (s t : Place) → Inside (m .sizes) s → Inside (m .sizes) t
+      → number (m .sizes) (toGo (m .sizes) o s) ≡ number (m .sizes) (toGo (m .sizes) o t) → s ≡ t
+  left-eq s t i j e =
+      sym (to-go-back (m .sizes) o s i)
+      ∙ ap (toGo (m .sizes) o) (number-eq (m .sizes) _ _ (to-go-in (m .sizes) o s i) (to-go-in (m .sizes) o t j) e)
+      ∙ to-go-back (m .sizes) o t j
 
-  module _ (rows : List ℕ) (L : Layer m o c b rows) where
-    -- what `rows` holds of the rows ahead
-    rows-y : (a : ℕ) → a < w → getD rows (a + w * b) 0 ≡ bit (aheadY a)
-    rows-y a l = at b L
-      where
-        at : (n : ℕ) → Layer m o c n rows → getD rows (a + w * n) 0 ≡ bit (ltb 0 n && shut m o (withLeft m o a (n - 1) c))
-        at zero K = K .edge a l
-        at (suc n) K =
-            let e : suc n - 1 ≡ n = omega arith in
-            rw (lt-ltb 0 (suc n) (omega arith), e) (K .done a n l (omega arith))
+  module _ (b c : ℕ) (hb : b < h) (hc : c < m .sizes .d) where
+    here-in : (a : ℕ) → a < w → Inside (m .sizes) (place a b c)
+    here-in a l = record { x-in = l; y-in = hb; z-in = hc }
 
-    rows-z : (a : ℕ) → a < w → getD rows (a + w * b + w) 0 ≡ bit (aheadZ m o a b c)
-    rows-z a l = rw (next-row w b a) (L .ahead a b l (omega arith) hb)
+    rows-are : (f y z : ℕ → Bool) → ((a : ℕ) → a < w → f a ≡ faulty m (withLeft m o a b c))
+        → ((a : ℕ) → a < w → (t : Bool) → t && y a && z a ≡ t && aheadY m o a b c && aheadZ m o a b c)
+        → (a : ℕ) → a < w → rowOf f y z a ≡ shut m o (withLeft m o a b c)
+    unfolding rowOf
+    rows-are f y z ef e zero l = ef 0 l ∙ sym (shut-row 0 b c (here-in 0 l) ∙ or-false (faulty m (withLeft m o 0 b c)))
+    rows-are f y z ef e (suc a) l =
+        let q : suc a - 1 ≡ a = omega arith in
+        rw (rows-are f y z ef e a (omega arith), ef (suc a) l, e (suc a) l (shut m o (withLeft m o a b c)))
+        (sym (shut-row (suc a) b c (here-in (suc a) l) ∙ (rw (lt-ltb 0 (suc a) (omega arith), q))))
 
-    pub rows-bits : Bits rows w (w * b)
-    rows-bits a l = (rw (rows-y a l) (bit-le (aheadY a)), rw (rows-z a l) (bit-le (aheadZ m o a b c)))
+    module _ (out : List ℕ) (long : nodes (m .sizes) ≤ length out) (S : Swept m o (b + h * c) out) (some : 0 < b) where
+      -- the row ahead on Y
+      y-is : (a : ℕ) → a < w → getD out (flip down w a + first (b - 1) c) 0 ≡ bit (aheadY m o a b c)
+      y-is a l = rw (lt-ltb 0 b some) (S .right (place a (b - 1) c) (record { x-in = l; y-in = omega arith; z-in = hc }) (omega arith))
 
-    row-is : (a : ℕ) → a < w → rowAt (m .cells) rows w first (w * b) down a ≡ shut m o (withLeft m o a b c)
-    row-is = rows-are (λ i. faultyCell (getD (m .cells) (flip down w i + first) 0))
-        (λ i. one (getD rows (i + w * b) 0))
-        (λ i. one (getD rows (i + w * b + w) 0))
-        (λ a l. refl)
-        (λ a l. ap one (rows-y a l) ∙ bit-one (aheadY a))
-        (λ a l. ap one (rows-z a l) ∙ bit-one (aheadZ m o a b c))
-
-    module _ (rows′ out out′ : List ℕ) (R : Row (m .cells) rows rows′ out out′ w first (w * b) down w) where
-      -- rows of `rows` with other steps left are kept
-      other-row : (a n : ℕ) → a < w → (n ≡ b → ⊥) → getD rows′ (a + w * suc n) 0 ≡ getD rows (a + w * suc n) 0
-      other-row a n l d = R .in-rows .kept (a + w * suc n) λ i h e.
-          let q : a + w * suc n ≡ i + w * suc b = e ∙ next-row w b i in
-          d (let r = digit-eq w a i (suc n) (suc b) l h q .1 in omega arith)
-
-      own-row : (a : ℕ) → a < w → getD rows′ (a + w * suc b) 0 ≡ bit (shut m o (withLeft m o a b c))
-      own-row a l = subst (λ (j : ℕ). getD rows′ j 0 ≡ bit (shut m o (withLeft m o a b c))) (next-row w b a) (R .in-rows .at a l ∙ ap bit (row-is a l))
-
-      layer-more : Layer m o c (b + 1) rows′
-      layer-more = record {
-        long = R .in-rows .size ∙ L .long;
-        edge = λ a l. R .in-rows .kept (a + w * 0) (λ i h e. omega arith) ∙ L .edge a l;
-        done = λ a n l. below-more (λ n. getD rows′ (a + w * suc n) 0 ≡ bit (shut m o (withLeft m o a n c))) b
-            (λ n h. other-row a n l (λ q. omega arith) ∙ L .done a n l h)
-            (own-row a l) n;
-        ahead = λ a n l h k. other-row a n l (λ q. omega arith) ∙ L .ahead a n l (omega arith) k;
+      pub y-ahead : Ahead out w (first b c) (first (b - 1) c) down
+      y-ahead = record {
+        long = omega (arith, first-room (b - 1) c (omega arith) hc);
+        bits = λ a l. rw (y-is a l) (bit-le (aheadY m o a b c));
+        apart = λ x y lx ly e.
+            let q = digit-eq w x y _ _ lx ly e .1 in
+            let r : flip (runsDown o Y) h (b - 1) ≡ flip (runsDown o Y) h b = omega arith in
+            flip-off (runsDown o Y) h b some hb r;
       }
 
-      -- a node of the row gets its byte, whatever its number
-      row-byte : (s : Place) → Inside (m .sizes) s → (a : ℕ) → a < w → number (m .sizes) (toGo (m .sizes) o s) ≡ flip down w a + first
-          → bit (rowAt (m .cells) rows w first (w * b) down a) ≡ bit (shut m o (toGo (m .sizes) o s))
-      row-byte s i a l e =
-          let q : toGo (m .sizes) o s ≡ withLeft m o a b c =
-          number-eq (m .sizes) _ _ (to-go-in (m .sizes) o s i) (to-go-in (m .sizes) o (place a b c) (here-in a l)) e in
-          ap bit (row-is a l ∙ ap (shut m o) (sym q))
+      module _ (l : ℕ) (flat : c ≡ 0 → m .sizes .d < 2) (stands-in : c ≡ 0 → l ≡ first (b - 1) c) (ahead : 0 < c → l ≡ first b (c - 1)) where
+        -- the row ahead on Z
+        z-is : 0 < c → (a : ℕ) → a < w → getD out (flip down w a + l) 0 ≡ bit (aheadZ m o a b c)
+        z-is p a la =
+            let deep : 2 ≤ m .sizes .d = omega arith in
+            let q = rows-layer h b c p in
+            rw (ahead p, le-leb 2 (m .sizes .d) deep, lt-ltb 0 c p)
+            (S .right (place a b (c - 1)) (record { x-in = la; y-in = hb; z-in = omega arith }) (omega (arith, sized .h-lo)))
 
-      swept-row : Swept m o (inRow b c) out out′
-      swept-row = record {
-        right = λ s i p.
-            let (ey, ez) = p in
-            rw (ey, ez) (R .in-out .at (s .x) (i .x-in) ∙ ap bit (row-is (s .x) (i .x-in)));
-        safe = λ s i. fill-safe _ _ out out′ w (R .in-out) (number (m .sizes) (toGo (m .sizes) o s)) (bit (shut m o (toGo (m .sizes) o s))) (row-byte s i);
-        kept = λ k h. R .in-out .kept k λ a l e.
-            let q = number-lt (m .sizes) (withLeft m o a b c) (to-go-in (m .sizes) o (place a b c) (here-in a l)) in
-            omega arith;
-      }
+        pub z-ahead : Ahead out w (first b c) l down
+        z-ahead = elim (none-or c) [
+          | inl e ↦ rw (stands-in e) y-ahead
+          | inr p ↦ record {
+            long = rw (ahead p) (omega (arith, first-room b (c - 1) hb (omega arith)));
+            bits = λ a la. rw (z-is p a la) (bit-le (aheadZ m o a b c));
+            apart = λ x y lx ly e.
+                let q = digit-eq w x y _ _ lx ly (ap (λ (i : ℕ). x + i) (sym (ahead p)) ∙ e) .1 in
+                let k = flip-lt (runsDown o Y) h b hb in
+                flip-off (runsDown o Z) (m .sizes .d) c p hc (digit-eq h _ _ _ _ k k q .1);
+          }
+        ]
 
-      pub row-done : Stretch m o c (b + 1) (inRow b c) rows′ out out′
-      row-done = record { layer = layer-more; bytes = swept-row }
+        both : (a : ℕ) → a < w → (t : Bool)
+            → t && one (getD out (flip down w a + first (b - 1) c) 0) && one (getD out (flip down w a + l) 0)
+            ≡ t && aheadY m o a b c && aheadZ m o a b c
+        both a la t = elim (none-or c) [
+          | inl e ↦
+              rw (stands-in e, y-is a la, bit-one (aheadY m o a b c), lt-leb 2 (m .sizes .d) (flat e)) (twice t (aheadY m o a b c))
+          | inr p ↦ rw (y-is a la, z-is p a la, bit-one (aheadY m o a b c), bit-one (aheadZ m o a b c))
+        ]
+
+        row-is : (a : ℕ) → a < w → rowAt (m .cells) out w (first b c) (first (b - 1) c) l down a ≡ shut m o (withLeft m o a b c)
+        row-is = rows-are (λ i. faultyCell (getD (m .cells) (flip down w i + first b c) 0))
+            (λ i. one (getD out (flip down w i + first (b - 1) c) 0))
+            (λ i. one (getD out (flip down w i + l) 0))
+            (λ a la. refl)
+            both
+
+        module _ (out′ : List ℕ) (R : Row (m .cells) out out′ w (first b c) (first (b - 1) c) l down w) where
+          -- the nodes of other rows are kept
+          other-row : (s : Place) → Inside (m .sizes) s → (rowsBefore (m .sizes) s ≡ b + h * c → ⊥)
+              → getD out′ (number (m .sizes) (toGo (m .sizes) o s)) 0 ≡ getD out (number (m .sizes) (toGo (m .sizes) o s)) 0
+          other-row s i off = R .kept (number (m .sizes) (toGo (m .sizes) o s)) λ a la e.
+              off (ap (rowsBefore (m .sizes)) (left-eq s (place a b c) i (here-in a la) e))
+
+          own-row : (s : Place) → Inside (m .sizes) s → rowsBefore (m .sizes) s ≡ b + h * c → Right m o out′ s
+          own-row s i e =
+              let (ey, ez) = digit-eq h (s .y) b (s .z) c (i .y-in) hb e in
+              rw (ey, ez) (R .at (s .x) (i .x-in) ∙ ap bit (row-is (s .x) (i .x-in)))
+
+          pub row-done : Stretch m o (b + h * c + 1) out out′
+          row-done = record {
+            swept = record {
+              right = λ s i q. elim (last-or (rowsBefore (m .sizes) s) (b + h * c) q) [
+                | inl e ↦ own-row s i e
+                | inr p ↦ other-row s i (λ e. omega arith) ∙ S .right s i p
+              ];
+              fresh = λ s i q. other-row s i (λ e. omega arith) ∙ S .fresh s i (omega arith);
+            };
+            kept = λ k q. R .kept k λ a la e.
+                let n = number-lt (m .sizes) (withLeft m o a b c) (to-go-in (m .sizes) o (place a b c) (here-in a la)) in
+                omega arith;
+          }

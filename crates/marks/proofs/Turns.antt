@@ -11,9 +11,9 @@ use Rattle.mesh.specs.Tools.{bit, one}
 use Rattle.mesh.specs.Cells.{faultyCell}
 use Rattle.mesh.specs.Marks.{flip}
 use Rattle.mesh.proofs.Bits.{bit-of, bit-one, bit-le, bit-and, bit-or}
-use Rattle.mesh.specs.Fill.{Filled}
+use Rattle.mesh.proofs.Left.{flip-lt}
 use Rattle.mesh.proofs.Fill.{fill-more}
-use Rattle.marks.specs.Sweep.{rowOf, rowAt, Row, Bits}
+use Rattle.marks.specs.Sweep.{rowOf, rowAt, Row, Ahead}
 
 -- 0 or 1 joined by the machine's operations is the joined tests' bit
 pub shut-is : (f : Bool) (x y z : ℕ) → x ≤ 1 → y ≤ 1 → z ≤ 1 → bitOr (bit f) (bitAnd (bitAnd x y) z) ≡ bit (f || (one x && one y && one z))
@@ -45,35 +45,38 @@ pub flip-apart : (down : Bool) (n k i a : ℕ) → i < a → a < n → flip down
 flip-apart true n k i a h l e = omega arith
 flip-apart false n k i a h l e = omega arith
 
-module _ (cells rows rows′ : List ℕ) (w k j : ℕ) (down : Bool) where
+module _ (cells out out′ : List ℕ) (w k j l : ℕ) (down : Bool) where
   abbrev pub row : ℕ → Bool
-  row = rowAt cells rows w k j down
+  row = rowAt cells out w k j l down
 
-  -- what turn a reads has not been written by the turns before it
-  unread-y : (a : ℕ) → Filled (λ i. i + j + w) (λ i. bit (row i)) rows rows′ a → a < w → getD rows′ (a + j) 0 ≡ getD rows (a + j) 0
-  unread-y a F l = F .kept (a + j) (λ i h e. omega arith)
+  -- what turn a reads ahead has not been written by the turns before it
+  unread : (i a : ℕ) → Ahead out w k i down → Row cells out out′ w k j l down a → a < w
+      → getD out′ (flip down w a + i) 0 ≡ getD out (flip down w a + i) 0
+  unread i a A F h =
+      F .kept (flip down w a + i) λ t ht e. A .apart (flip down w a) (flip down w t) (flip-lt down w a h) (flip-lt down w t (omega arith)) e
 
-  unread-z : (a : ℕ) → Filled (λ i. i + j + w) (λ i. bit (row i)) rows rows′ a → getD rows′ (a + j + w) 0 ≡ getD rows (a + j + w) 0
-  unread-z a F = F .kept (a + j + w) (λ i h e. omega arith)
+  pub read-bits : (a last x : ℕ) → Ahead out w k j down → Ahead out w k l down → Row cells out out′ w k j l down a → a < w → x ≡ flip down w a
+      → last ≡ bit (before row a) → (last ≤ 1) × (getD out′ (x + j) 0 ≤ 1) × (getD out′ (x + l) 0 ≤ 1)
+  read-bits a last x A B F h ex e = (
+    rw e (bit-le (before row a)),
+    rw (ex, unread j a A F h) (A .bits a h),
+    rw (ex, unread l a B F h) (B .bits a h),
+  )
 
-  pub read-bits : (a last : ℕ) → Filled (λ i. i + j + w) (λ i. bit (row i)) rows rows′ a → a < w → Bits rows w j
-      → last ≡ bit (before row a) → (last ≤ 1) × (getD rows′ (a + j) 0 ≤ 1) × (getD rows′ (a + j + w) 0 ≤ 1)
-  read-bits a last F l bits e = (rw e (bit-le (before row a)), rw (unread-y a F l) (bits a l .0), rw (unread-z a F) (bits a l .1))
-
-  pub row-turn : (a last x r : ℕ) → Filled (λ i. i + j + w) (λ i. bit (row i)) rows rows′ a → a < w → last ≡ bit (before row a) → x ≡ flip down w a
-      → r ≡ bit (faultyCell (getD cells (x + k) 0) || (one last && one (getD rows′ (a + j) 0) && one (getD rows′ (a + j + w) 0)))
+  pub row-turn : (a last x r : ℕ) → Ahead out w k j down → Ahead out w k l down → Row cells out out′ w k j l down a → a < w → x ≡ flip down w a
+      → last ≡ bit (before row a)
+      → r ≡ bit (faultyCell (getD cells (x + k) 0) || (one last && one (getD out′ (x + j) 0) && one (getD out′ (x + l) 0)))
       → r ≡ bit (row a)
-  row-turn a last x r F l el ex er =
+  row-turn a last x r A B F h ex el er =
       er
-      ∙ (rw (ex, el, unread-y a F l, unread-z a F, bit-one (before row a)))
-      ∙ ap bit (sym (row-step (λ i. faultyCell (getD cells (flip down w i + k) 0)) (λ i. one (getD rows (i + j) 0)) (λ i. one (getD rows (i + j + w) 0)) a))
+      ∙ (rw (ex, el, unread j a A F h, unread l a B F h, bit-one (before row a)))
+      ∙ ap bit (sym (row-step (λ i. faultyCell (getD cells (flip down w i + k) 0))
+      (λ i. one (getD out (flip down w i + j) 0))
+      (λ i. one (getD out (flip down w i + l) 0))
+      a))
 
-  pub row-more : (out out′ : List ℕ) (a x r : ℕ) → Row cells rows rows′ out out′ w k j down a → a < w → x < w
-      → w + j + w ≤ length rows → w + k ≤ length out → x ≡ flip down w a → r ≡ bit (row a)
-      → Row cells rows (set rows′ (a + j + w) r) out (set out′ (x + k) r) w k j down (a + 1)
-  row-more out out′ a x r R l lx hl ho ex er =
+  pub row-more : (a x r : ℕ) → Row cells out out′ w k j l down a → a < w → x < w → w + k ≤ length out → x ≡ flip down w a → r ≡ bit (row a)
+      → Row cells out (set out′ (x + k) r) w k j l down (a + 1)
+  row-more a x r F h hx room ex er =
       let e : x + k ≡ flip down w a + k = ap (λ (i : ℕ). i + k) ex in
-      record {
-        in-rows = fill-more _ _ rows rows′ a (a + j + w) r (R .in-rows) (omega (arith, R .in-rows .size)) (λ i h q. omega arith) refl er;
-        in-out = fill-more _ _ out out′ a (x + k) r (R .in-out) (omega (arith, R .in-out .size)) (λ i h q. flip-apart down w k i a h l (q ∙ e)) e er;
-      }
+      fill-more _ _ out out′ a (x + k) r F (omega (arith, F .size)) (λ i hi q. flip-apart down w k i a hi h (q ∙ e)) e er

@@ -14,13 +14,13 @@ use Rattle.mesh.specs.Steps.{reversed}
 use Rattle.mesh.specs.Cells.{Map, mapOf, faulty, faultyCell}
 use Rattle.mesh.specs.Marks.{toGo, shut, stuck, byteOf, markAt, marksOf}
 use Rattle.mesh.proofs.Bits.{bit-le}
-use Rattle.mesh.proofs.Numbers.{number-of, number-lt, place-in}
+use Rattle.mesh.proofs.Numbers.{digit-lt, number-of, number-lt, place-in}
 use Rattle.mesh.proofs.Left.{to-go-in, to-go-back}
 use Rattle.mesh.proofs.Marks.{marks-length, marks-at}
 use Rattle.mesh.specs.declared.Sizes.{Sizes}
 use Rattle.mesh.specs.declared.Place.{Place}
 use Rattle.marks.specs.Entry.{marksWritten}
-use Rattle.marks.specs.Sweep.{Right, inLayers, Swept, Room}
+use Rattle.marks.specs.Sweep.{Right, Stretch, Room}
 use Rattle.marks.specs.Join.{markOf, markFrom, Bytes, Joined}
 
 -- ---- what is to be written
@@ -51,13 +51,13 @@ module _ (S : Sizes) (cells : List ℕ) (o : ℕ) (old : List ℕ) where
 -- ---- what is written
 
 -- a whole sweep has each node's byte at its number
-module _ (m : Map) (o : ℕ) (old new : List ℕ) (W : Swept m o (inLayers (m .sizes .d)) old new) where
+module _ (m : Map) (o : ℕ) (old new : List ℕ) (W : Stretch m o (m .sizes .h * m .sizes .d) old new) where
   swept-at : (k : ℕ) → k < nodes (m .sizes) → getD new k 0 ≡ bit (shut m o (placeOf (m .sizes) k))
   swept-at k l =
       let p : Place = placeOf (m .sizes) k in
       let i : Inside (m .sizes) p = place-in (m .sizes) k l in
       let s : Inside (m .sizes) (toGo (m .sizes) o p) = to-go-in (m .sizes) o p i in
-      let r : Right m o new (toGo (m .sizes) o p) = W .right (toGo (m .sizes) o p) s (s .z-in) in
+      let r : Right m o new (toGo (m .sizes) o p) = W .swept .right (toGo (m .sizes) o p) s (digit-lt (s .y-in) (s .z-in)) in
       let e : toGo (m .sizes) o (toGo (m .sizes) o p) ≡ p = to-go-back (m .sizes) o p i in
       ap (λ (j : ℕ). getD new j 0) (sym (number-of (m .sizes) k))
       ∙ subst (λ (p : Place). getD new (number (m .sizes) p) 0 ≡ bit (shut m o p)) e r
@@ -74,7 +74,7 @@ module _ (S : Sizes) (o : ℕ) (cells old mid none behind new : List ℕ) where
   abbrev m : Map
   m = mapOf S cells
 
-  joined-at : Swept m o (inLayers (S .d)) old mid → Swept m (reversed o) (inLayers (S .d)) none behind
+  joined-at : Stretch m o (S .h * S .d) old mid → Stretch m (reversed o) (S .h * S .d) none behind
       → (k : ℕ) → k < nodes S → markFrom cells mid behind k ≡ markAt m o (placeOf S k)
   unfolding markAt byteOf
   joined-at A B k l =
@@ -82,8 +82,8 @@ module _ (S : Sizes) (o : ℕ) (cells old mid none behind new : List ℕ) where
       let e : faultyCell (getD cells k 0) ≡ faulty m p = ap (λ (j : ℕ). faultyCell (getD cells j 0)) (sym (number-of S k)) in
       rw (e, swept-at m o old mid A k l, swept-at m (reversed o) none behind B k l) (mark-shut (faulty m p) (stuck m o p) (stuck m (reversed o) p))
 
-  pub written : Room S cells old → length new ≡ length old → Swept m o (inLayers (S .d)) old mid
-      → Swept m (reversed o) (inLayers (S .d)) none behind → Joined cells behind mid new (nodes S)
+  pub written : Room S cells old → length new ≡ length old → Stretch m o (S .h * S .d) old mid
+      → Stretch m (reversed o) (S .h * S .d) none behind → Joined cells behind mid new (nodes S)
       → new ≡ marksWritten S cells o old
   written R long A B F = ext-getD 0 new (marksWritten S cells o old)
       (long ∙ sym (written-size S cells o old (R .out-long)))

@@ -2,4 +2,5 @@
 
 pub mod entry;
 pub mod join;
+pub mod layer;
 pub mod sweep;

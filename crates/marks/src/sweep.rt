@@ -1,115 +1,93 @@
-// The sweep: which nodes are shut, that is faulty or stuck, from the end ahead. It counts in steps left, so that all orientations are one case.
+// The sweep: which nodes are shut, that is faulty or stuck, layer by layer from the end ahead.
+use crate::layer::ahead_z;
+use crate::layer::coordinate;
+use crate::layer::rows;
 use mesh::Place;
 use mesh::Sizes;
 use mesh::cells::faulty_bit;
 ghost use mathlib.Core.Path.{_≡_};
-ghost use mathlib.Core.Bool.{_&&_, _||_};
-ghost use Prim.Native.Nat.{ℕ, _+_, _-_, _*_, _≤_, _<_};
+ghost use mathlib.Core.Bool.{false};
 ghost use mathlib.Core.List.{List};
+ghost use Prim.Native.Nat.{ℕ, _+_, _-_, _*_, _≤_, _<_};
 ghost use lib.ListN.{length, getD};
-ghost use lib.Dec.{ltb};
-ghost use Rattle.mesh.specs.Tools.{bit, one};
-ghost use Rattle.mesh.specs.Mesh.{InRange};
+ghost use lib.Dec.{leb};
+ghost use Rattle.mesh.specs.Tools.{bit};
+ghost use Rattle.mesh.specs.Mesh.{InRange, nodes};
 ghost use Rattle.mesh.specs.Cells.{mapOf, faultyCell};
-ghost use Rattle.mesh.specs.Marks.{flip};
-ghost use Rattle.marks.specs.Sweep.{Bits, Row, Layer, inRow, inRows, inLayers, Swept, Stretch, Room};
+ghost use Rattle.mesh.specs.Fill.{Filled};
+ghost use Rattle.marks.specs.Sweep.{inner, Apart, Swept, Stretch, Room};
 
-// The coordinate with a steps left on an axis of n.
-fn coordinate(down: bool, n: usize, a: usize) -> usize
-    requires { ⌜ a < n ⌝ }
-    ensures { λ r. ⌜ (r ≡ flip down n a) × (r < n) ⌝ }
+// Each node's byte: 1 where it is faulty, else 0.
+fn lay(cells: &[u8], out: &mut [u8], n: usize)
+    requires { ⌜ (n ≤ length (now cells)) × (n ≤ length (now out)) ⌝ }
+    ensures { λ _. ⌜ Filled (λ i. i) (λ i. bit (faultyCell (getD (now (cells .entry)) i 0))) (now (out .entry)) (now (out .exit)) n ⌝ }
 {
-    if down { a } else { n - 1 - a }
-}
-
-// Faulty, or blocked on all three sides. No branch: the time of a sweep does not depend on what is faulty.
-fn shut_byte(cell: u8, x: u8, y: u8, z: u8) -> u8
-    requires { ⌜ (x ≤ 1) × (y ≤ 1) × (z ≤ 1) ⌝ }
-    ensures { λ r. ⌜ r ≡ bit (faultyCell cell || (one x && one y && one z)) ⌝ }
-{
-    faulty_bit(cell) | (x & y & z)
-}
-
-// A row of w cells that begin at k. In rows, the row ahead on Y begins at j, and after it comes the row ahead on Z, whose place this one takes.
-fn row_at(
-    cells: &[u8],
-    rows: &mut [u8; 272],
-    out: &mut [u8],
-    w: usize,
-    k: usize,
-    j: usize,
-    down: bool,
-)
-    requires { ⌜ (w + k ≤ length (now cells)) × (w + k ≤ length (now out)) × (length (now rows) ≡ 272) × (w + j + w ≤ 272) × Bits (now rows) w j ⌝ }
-    ensures { λ _. ⌜ Row (now (cells .entry)) (now (rows .entry)) (now (rows .exit)) (now (out .entry)) (now (out .exit)) w k j down w ⌝ }
-{
-    let mut last = 0u8;
-    for a in 0..w {
-        let i = coordinate(down, w, a) + k;
-        let y = a + j;
-        let own = y + w;
-        last = shut_byte(cells[i], last, rows[y], rows[own]);
-        rows[own] = last;
-        out[i] = last;
+    for i in 0..n {
+        out[i] = faulty_bit(cells[i]);
     }
 }
 
-// The row with b and c steps left.
-fn row(s: Sizes, cells: &[u8], rows: &mut [u8; 272], out: &mut [u8], o: usize, b: usize, c: usize)
-    requires { ⌜ Room s (now cells) (now out) × (b < s .h) × (c < s .d) × Layer (mapOf s (now cells)) o c b (now rows) ⌝ }
-    ensures { λ _. ⌜ Stretch (mapOf s (now (cells .entry))) o c (b + 1) (inRow b c) (now (rows .exit)) (now (out .entry)) (now (out .exit)) ⌝ }
+// Do three stretches of n bytes, at p, q and r, hold a 1 at the same place? No branch and no way out: all are looked at, many at a time.
+fn meet(out: &[u8], n: usize, p: usize, q: usize, r: usize) -> bool
+    requires { ⌜ (p + n ≤ length (now out)) × (q + n ≤ length (now out)) × (r + n ≤ length (now out)) ⌝ }
+    ensures { λ t. ⌜ (t ≡ false → Apart (now (out .entry)) p q r n) ⌝ }
 {
-    let y = coordinate(o / 2 % 2 == 1, s.h, b);
+    let mut met = 0u8;
+    for i in 0..n {
+        met = (out[p + i] & out[q + i] & out[r + i]) | met;
+    }
+    met != 0
+}
+
+// How many nodes of a layer there are from the first to the last that has neighbours ahead on X and Y.
+fn inner(s: Sizes) -> usize
+    requires { ⌜ InRange s ⌝ }
+    ensures { λ r. ⌜ r ≡ inner s ⌝ }
+{
+    s.w * s.h - s.w - 1
+}
+
+// Has the layer with c steps left a node with faulty ones ahead on X and Y and a shut one on Z? If not, none of its nodes is stuck.
+fn any_blocked(s: Sizes, out: &[u8], o: usize, c: usize) -> bool
+    requires { ⌜ InRange s × (nodes s ≤ length (now out)) × (c < s .d) ⌝ }
+    ensures { λ t. ⌜ (t ≡ false → (cells : List ℕ) → (c ≡ 0 → s .d < 2)
+        → Swept (mapOf s cells) o (s .h * c) (now (out .entry)) → Swept (mapOf s cells) o (s .h * (c + 1)) (now (out .entry))) ⌝ }
+{
+    let x = o % 2;
+    let y = o / 2 % 2;
     let z = coordinate(o / 4 % 2 == 1, s.d, c);
-    let k = s.number(Place { x: 0, y, z });
-    row_at(cells, rows, out, s.w, k, s.w * b, o % 2 == 1);
+    let p = s.number(Place { x: 1 - x, y, z });
+    let q = s.number(Place { x, y: 1 - y, z });
+    let r = ahead_z(s, x, y, o, c, q);
+    meet(out, inner(s), p, q, r)
 }
 
 // The layer with c steps left.
-fn layer(s: Sizes, cells: &[u8], rows: &mut [u8; 272], out: &mut [u8], o: usize, c: usize)
-    requires { ⌜ Room s (now cells) (now out) × (c < s .d) × Layer (mapOf s (now cells)) o c 0 (now rows) ⌝ }
-    ensures { λ _. ⌜ Stretch (mapOf s (now (cells .entry))) o c (s .h) (inRows (s .h) c) (now (rows .exit)) (now (out .entry)) (now (out .exit)) ⌝ }
+fn layer(s: Sizes, cells: &[u8], out: &mut [u8], o: usize, c: usize)
+    requires { ⌜ Room s (now cells) (now out) × (c < s .d) × (c ≡ 0 → s .d < 2) × Swept (mapOf s (now cells)) o (s .h * c) (now out) ⌝ }
+    ensures { λ _. ⌜ Stretch (mapOf s (now (cells .entry))) o (s .h * (c + 1)) (now (out .entry)) (now (out .exit)) ⌝ }
 {
-    let h = s.h;
-    for b in 0..h {
-        row(s, cells, rows, out, o, b, c);
+    if !any_blocked(s, out, o, c) {
+        return;
     }
+    rows(s, cells, out, o, c);
 }
 
-// The byte ahead of the first layer: an edge blocks nothing, an axis that does not count blocks always.
-fn beyond(d: usize) -> u8
-    ensures { λ r. ⌜ r ≡ bit (ltb d 2) ⌝ }
+// How many layers have the edge ahead of them, which blocks nothing: the first, if Z counts.
+fn edge_layers(d: usize) -> usize
+    ensures { λ r. ⌜ r ≡ bit (leb 2 d) ⌝ }
 {
-    if d < 2 { 1 } else { 0 }
-}
-
-fn filled(v: u8) -> [u8; 272]
-    ensures { λ r. ⌜ (length r ≡ 272) × ((i : ℕ) → i < 272 → getD r i 0 ≡ v) ⌝ }
-{
-    [v; 272]
-}
-
-// The rows ahead of the first layer: the edge on Y, which blocks nothing, then what is beyond on Z.
-fn first_layer(s: Sizes) -> [u8; 272]
-    requires { ⌜ InRange s ⌝ }
-    ensures { λ r. ⌜ ((cells : List ℕ) (o : ℕ) → Layer (mapOf s cells) o 0 0 r) ⌝ }
-{
-    let mut rows = filled(beyond(s.d));
-    let w = s.w;
-    for a in 0..w {
-        rows[a] = 0;
-    }
-    rows
+    if d < 2 { 0 } else { 1 }
 }
 
 // Each node's byte: 1 where it is shut in orientation o, else 0.
 pub fn sweep(s: Sizes, cells: &[u8], out: &mut [u8], o: usize)
     requires { ⌜ Room s (now cells) (now out) ⌝ }
-    ensures { λ _. ⌜ Swept (mapOf s (now (cells .entry))) o (inLayers (s .d)) (now (out .entry)) (now (out .exit)) ⌝ }
+    ensures { λ _. ⌜ Stretch (mapOf s (now (cells .entry))) o (s .h * s .d) (now (out .entry)) (now (out .exit)) ⌝ }
 {
-    let mut rows = first_layer(s);
+    lay(cells, out, s.nodes());
     let d = s.d;
-    for c in 0..d {
-        layer(s, cells, &mut rows, out, o, c);
+    for c in edge_layers(d)..d {
+        layer(s, cells, out, o, c);
     }
 }

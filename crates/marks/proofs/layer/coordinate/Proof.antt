@@ -1,7 +1,7 @@
--- `marks::sweep::coordinate` meets its contract. Assumes nothing.
+-- `marks::layer::coordinate` meets its contract. Assumes nothing.
 use borrow.Author.Needs.{needs}
-use Rattle.marks.proofs.sweep.coordinate.Statement.{statement}
-use Rattle.marks.proofs.sweep.coordinate.Tie as tie
+use Rattle.marks.proofs.layer.coordinate.Statement.{statement}
+use Rattle.marks.proofs.layer.coordinate.Tie as tie
 
 sub-result : tie.Need-sub-result
 sub-result c = search needs

@@ -1,9 +1,9 @@
--- `marks::sweep::shut_byte` meets its contract: bytes that are 0 or 1 are joined as tests are. Assumes nothing.
+-- `marks::layer::shut_byte` meets its contract: bytes that are 0 or 1 are joined as tests are. Assumes nothing.
 use borrow.Author.Needs.{needs}
 use Rattle.mesh.specs.Cells.{faultyCell}
 use Rattle.marks.proofs.Turns.{shut-is}
-use Rattle.marks.proofs.sweep.shut_byte.Statement.{statement}
-use Rattle.marks.proofs.sweep.shut_byte.Tie as tie
+use Rattle.marks.proofs.layer.shut_byte.Statement.{statement}
+use Rattle.marks.proofs.layer.shut_byte.Tie as tie
 
 faulty-bit-requires : tie.Need-faulty-bit-requires
 faulty-bit-requires c κs = search needs
