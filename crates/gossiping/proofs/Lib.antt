@@ -1,0 +1,5 @@
+pub mod Coming
+pub mod Visited
+pub mod Going
+pub mod Counted
+pub mod Figures
