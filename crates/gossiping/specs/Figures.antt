@@ -31,9 +31,9 @@ unfoldable pub settledFrom : Map → ℕ → ℕ → ℕ → ℕ
 settledFrom m o zero r = r
 settledFrom m o (suc n) r = elim (eqb (outstandingAfter m o r) 0) [ true ↦ r | false ↦ settledFrom m o n (suc r) ]
 
--- no mark is further from what shows it than W + H + D steps: so many full rounds bring it, and one more tells it
+-- W + H + D full rounds settle, since no mark is shown by more steps ahead: so many rounds at the most
 abbrev pub longest : Sizes → ℕ
-longest S = lossyRounds + (S .w + S .h + S .d + 1)
+longest S = lossyRounds + (S .w + S .h + S .d)
 
 abbrev pub settledAt : Map → ℕ → ℕ
 settledAt m o = settledFrom m o (longest (m .sizes)) 0

@@ -2,4 +2,5 @@ pub mod Chance
 pub mod Links
 pub mod Rounds
 pub mod Figures
+pub mod Promise
 pub mod Text
