@@ -7,3 +7,4 @@ pub mod Soon
 pub mod Full
 pub mod Led
 pub mod Settled
+pub mod Turns

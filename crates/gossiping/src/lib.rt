@@ -5,3 +5,16 @@ pub mod figuring;
 pub mod lines;
 pub mod links;
 pub mod rounds;
+pub mod talking;
+
+// How much news is outstanding, and where the text goes on.
+pub struct Told {
+    pub news: usize,
+    pub next: usize,
+}
+
+// How many rounds there were, and where the text goes on.
+pub struct Ended {
+    pub rounds: usize,
+    pub next: usize,
+}
