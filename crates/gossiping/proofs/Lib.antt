@@ -1,0 +1,10 @@
+pub mod Coming
+pub mod Visited
+pub mod Going
+pub mod Counted
+pub mod Figures
+pub mod Soon
+pub mod Full
+pub mod Led
+pub mod Settled
+pub mod Turns

@@ -1,0 +1,18 @@
+-- `gossiping::chance::chosen` meets its contract. Assumes nothing.
+use mathlib.Core.Path.{refl}
+use Prim.Native.Nat.{_/_}
+use native.Mathlib.Nat.{mod-lt}
+use Rattle.gossiping.specs.Chance.{chosen}
+use borrow.Author.Needs.{needs}
+use Rattle.gossiping.proofs.chance.chosen.Statement.{statement}
+use Rattle.gossiping.proofs.chance.chosen.Tie as tie
+
+rem-result : tie.Need-rem-result
+rem-result c = search needs
+
+returns : tie.Need-returns
+unfolding chosen
+returns c = (refl, mod-lt (c .args .g / 65536) (c .pre))
+
+pub chosen-spec : {M : Type 1} → statement M
+chosen-spec = tie.close (tie.spec rem-result returns)

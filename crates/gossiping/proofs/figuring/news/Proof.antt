@@ -1,0 +1,33 @@
+-- `gossiping::figuring::news` meets its contract: the question is answered for a sound state. Assumes nothing.
+use mathlib.Core.Path.{sym, _∙_}
+use denote.Ref.{now}
+use Rattle.gossiping.proofs.Figures.{not-refused, the-number}
+use borrow.Author.Needs.{needs}
+use Rattle.gossiping.proofs.figuring.news.Statement.{statement}
+use Rattle.gossiping.proofs.figuring.news.Tie as tie
+
+outstanding-requires : tie.Need-outstanding-requires
+outstanding-requires c κs = search needs
+
+enum-known-a : tie.Need-enum-known-a
+enum-known-a c = search needs
+
+enum-told : tie.Need-enum-told
+enum-told c = search needs
+
+returns : tie.Need-returns
+returns c =
+    let q = c .before .before in
+    let s = q .before .before in
+    let a = s .args in
+    absurd (not-refused (a .s) (a .o) (now (a .state)) (s .pre) (c .enum-told .given .0 .0) (sym (q .outstanding .ensures) ∙ c .enum-told .given .1))
+
+returns-2 : tie.Need-returns-2
+returns-2 c =
+    let q = c .before .before .before in
+    let s = q .before .before in
+    let a = s .args in
+    the-number (a .s) (a .o) (now (a .state)) (s .pre) (c .before .a .given .0 .0) (sym (q .outstanding .ensures) ∙ c .before .a .given .1)
+
+pub news-spec : {M : Type 1} → statement M
+news-spec = tie.close (tie.spec outstanding-requires enum-known-a enum-told returns returns-2)

@@ -1,0 +1,27 @@
+-- `gossiping::links::say` meets its contract. Assumes nothing.
+use mathlib.Core.Path.{ap, _∙_}
+use Prim.Native.Nat.{ℕ}
+use denote.Ref.{now}
+use Rattle.gossiping.specs.Links.{comes}
+use borrow.Author.Needs.{needs}
+use Rattle.gossiping.proofs.links.say.Statement.{statement}
+use Rattle.gossiping.proofs.links.say.Tie as tie
+
+saying-requires : tie.Need-saying-requires
+saying-requires c κs = search needs
+
+tell-requires : tie.Need-tell-requires
+tell-requires c κs = search needs
+
+same-length : tie.Need-same-length
+same-length c = search needs
+
+returns : tie.Need-returns
+returns c =
+    let told = c .before .before in
+    let word = told .before .before in
+    let a = word .before .before .before .args in
+    told .tell .ensures ∙ ap (λ (w : ℕ). comes (a .s) (a .o) (a .link) w (now (a .state))) (word .saying .ensures)
+
+pub say-spec : {M : Type 1} → statement M
+say-spec = tie.close (tie.spec saying-requires tell-requires same-length returns)

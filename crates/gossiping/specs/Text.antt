@@ -1,0 +1,54 @@
+-- The text that is printed for the bytes of a map file. Assumes nothing.
+use mathlib.Core.List.{List, [], _++_}
+use Prim.Native.Nat.{ℕ, zero, suc}
+use Rattle.mesh.specs.Cells.{Map, mapOf}
+use Rattle.mesh.specs.Answers.{refusalNo}
+use Rattle.mapfile.specs.Format.{cellsIn}
+use Rattle.mapfile.specs.Entry.{readAnswer}
+use Rattle.mapfile.specs.declared.MapRead.{MapRead}
+use Rattle.mapfile.specs.declared.MapRead.the-variants.{Read, NotRead}
+use Rattle.text.specs.Text.{ascii, decimal}
+use Rattle.report.specs.Counts.{faultyCount}
+use Rattle.report.specs.Report.{firstLine, orientations, refusalLine, largest}
+use Rattle.field.specs.Promise.{workers, enoughRounds}
+use Rattle.gossiping.specs.Figures.{outstandingAfter, marksAfter, settledAt}
+
+-- two or three words on a line, each with its number
+unfoldable pub twoOnLine : List ℕ → ℕ → List ℕ → ℕ → List ℕ
+twoOnLine a i b j = (a ++ decimal i) ++ (b ++ decimal j) ++ ascii "\n"
+
+unfoldable pub threeOnLine : List ℕ → ℕ → List ℕ → ℕ → List ℕ → ℕ → List ℕ
+threeOnLine a i b j c k = (a ++ decimal i) ++ twoOnLine b j c k
+
+-- how much news is outstanding and how many marks are held after r rounds; round 0 is the fresh state
+abbrev pub roundLine : ℕ → ℕ → ℕ → List ℕ
+roundLine r news marks = threeOnLine (ascii "round ") r (ascii " outstanding ") news (ascii " marks ") marks
+
+unfoldable pub roundLines : Map → ℕ → ℕ → List ℕ
+roundLines m o zero = []
+roundLines m o (suc r) = roundLines m o r ++ roundLine r (outstandingAfter m o r) (marksAfter m o r)
+
+-- an orientation: how many nodes work, the rounds, and when they settled against the bound 2 × W + 1
+abbrev pub startLine : ℕ → ℕ → List ℕ
+startLine o w = twoOnLine (ascii "octant ") o (ascii " working ") w
+
+abbrev pub settledLine : ℕ → ℕ → List ℕ
+settledLine r most = twoOnLine (ascii "settled after round ") r (ascii ", full rounds that always settle: ") most
+
+unfoldable pub octantText : Map → ℕ → List ℕ
+octantText m o = startLine o (workers m) ++ roundLines m o (suc (settledAt m o)) ++ settledLine (settledAt m o) (enoughRounds m)
+
+unfoldable pub octantTexts : Map → ℕ → List ℕ
+octantTexts m zero = []
+octantTexts m (suc o) = octantTexts m o ++ octantText m o
+
+abbrev pub mapText : Map → List ℕ
+mapText m = firstLine (m .sizes) (faultyCount m) ++ octantTexts m (orientations (m .sizes))
+
+-- the text for a file, as of the report: a refusal is alone
+abbrev pub textOn : MapRead → List ℕ → List ℕ
+textOn (Read S) cells = mapText (mapOf S cells)
+textOn (NotRead r) cells = refusalLine (refusalNo r)
+
+unfoldable pub gossip : List ℕ → List ℕ
+gossip file = textOn (readAnswer file largest) (cellsIn file)
