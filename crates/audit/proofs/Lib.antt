@@ -1,0 +1,5 @@
+pub mod Digits
+pub mod Entries
+pub mod Pieces
+pub mod Drawing
+pub mod Sample

@@ -1,0 +1,28 @@
+-- `audit::columns::say_column` meets its contract. Assumes nothing.
+use native.Mathlib.Omega.{arith}
+use Rattle.audit.proofs.Pieces.{said-exact, said-then}
+use borrow.Author.Needs.{needs}
+use Rattle.audit.proofs.columns.say_column.Statement.{statement}
+use Rattle.audit.proofs.columns.say_column.Tie as tie
+
+slice-aggregate-say : tie.Need-slice-aggregate-say
+slice-aggregate-say c = search needs
+
+say-requires : tie.Need-say-requires
+say-requires c κs = search needs
+
+say-two-requires : tie.Need-say-two-requires
+say-two-requires c κs = search needs
+
+same-length : tie.Need-same-length
+same-length c = search needs
+
+returns : tie.Need-returns
+returns c =
+    let number = c .before .before in
+    let space = number .before .before .before .before in
+    said-then 1 21 (omega (arith, space .before .before .before .before .pre)) (said-exact (space .say .ensures)) (number .say-two .ensures)
+
+pub say-column-spec : {M : Type 1} → statement M
+say-column-spec =
+    tie.close (tie.spec slice-aggregate-say say-requires say-two-requires same-length returns)

@@ -1,0 +1,19 @@
+-- `audit::log::next_word` meets its contract. Assumes nothing.
+use mathlib.Core.Path.{ap, _∙_}
+use borrow.Author.Needs.{needs}
+use Rattle.audit.specs.Log.{past}
+use Rattle.audit.specs.declared.Stop.the-variants.{Word}
+use Rattle.audit.proofs.log.next_word.Statement.{statement}
+use Rattle.audit.proofs.log.next_word.Tie as tie
+
+past-requires : tie.Need-past-requires
+past-requires c κs = search needs
+
+past-requires-2 : tie.Need-past-requires-2
+past-requires-2 c κs = search needs
+
+returns : tie.Need-returns
+returns c = c .past2 .ensures ∙ ap (past Word) (c .before .past .ensures)
+
+pub next-word-spec : {M : Type 1} → statement M
+next-word-spec = tie.close (tie.spec past-requires past-requires-2 returns)

@@ -1,0 +1,33 @@
+-- `audit::log::past` meets its contract. Assumes nothing.
+use mathlib.Core.Path.{_≡_, ap, _∙_}
+use Prim.Native.Nat.{ℕ, _-_}
+use native.Mathlib.Omega.{arith}
+use borrow.Author.Needs.{needs}
+use denote.Ref.{now}
+use lib.ListN.{length, drop, length-drop}
+use lib.Seq.{take-all}
+use Rattle.audit.proofs.log.past.Statement.{statement}
+use Rattle.audit.proofs.log.past.Tie as tie
+
+before-requires : tie.Need-before-requires
+before-requires c κs = search needs
+
+sub-result : tie.Need-sub-result
+sub-result c = search needs
+
+part-result-start : tie.Need-part-result-start
+part-result-start c = search needs
+
+part-result-end : tie.Need-part-result-end
+part-result-end c = search needs
+
+returns : tie.Need-returns
+returns c =
+    let n = c .before in
+    let text = now (n .before .before .args .text) in
+    take-all (length text - n .before2 .result) (drop (n .before2 .result) text) (omega (arith, length-drop (n .before2 .result) text))
+    ∙ ap (λ (k : ℕ). drop k text) (n .before2 .ensures .0)
+
+pub past-spec : {M : Type 1} → statement M
+past-spec =
+    tie.close (tie.spec before-requires sub-result part-result-start part-result-end returns)

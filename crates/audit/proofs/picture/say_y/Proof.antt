@@ -1,0 +1,45 @@
+-- `audit::picture::say_y` meets its contract. Assumes nothing.
+use native.Mathlib.Omega.{arith}
+use Rattle.audit.proofs.Pieces.{said-exact, said-then}
+use borrow.Author.Needs.{needs}
+use Rattle.audit.proofs.picture.say_y.Statement.{statement}
+use Rattle.audit.proofs.picture.say_y.Tie as tie
+
+slice-aggregate-say : tie.Need-slice-aggregate-say
+slice-aggregate-say c = search needs
+
+say-requires : tie.Need-say-requires
+say-requires c κs = search needs
+
+say-two-requires : tie.Need-say-two-requires
+say-two-requires c κs = search needs
+
+slice-aggregate-say-2 : tie.Need-slice-aggregate-say-2
+slice-aggregate-say-2 c = search needs
+
+say-requires-2 : tie.Need-say-requires-2
+say-requires-2 c κs = search needs
+
+same-length : tie.Need-same-length
+same-length c = search needs
+
+returns : tie.Need-returns
+returns c =
+    let end = c .before .before in
+    let number = end .before .before .before .before .before in
+    let word = number .before .before .before .before in
+    let fits = word .before .before .before .before .pre in
+    said-then 27 2 (omega (arith, fits)) (said-then 6 21 (omega (arith, fits)) (said-exact (word .say .ensures)) (number .say-two .ensures))
+    (said-exact (end .say2 .ensures))
+
+pub say-y-spec : {M : Type 1} → statement M
+say-y-spec =
+    tie.close
+    (tie.spec
+    slice-aggregate-say
+    say-requires
+    say-two-requires
+    slice-aggregate-say-2
+    say-requires-2
+    same-length
+    returns)

@@ -1,0 +1,81 @@
+-- `audit::symbols::draw_over` meets its contract: one symbol a turn. Assumes nothing.
+use mathlib.Core.Path.{_≡_, refl, ap, _∙_, subst}
+use mathlib.Core.List.{List}
+use Prim.Native.Nat.{ℕ, _-_, _≤_}
+use native.Mathlib.Omega.{arith}
+use borrow.Author.Needs.{needs}
+use denote.Ref.{now}
+use lib.ListN.{length, getD}
+use Rattle.mesh.specs.Fill.{Filled}
+use Rattle.mesh.proofs.Fill.{fill-none, fill-more}
+use Rattle.audit.specs.Picture.{symbolOf}
+use Rattle.audit.proofs.symbols.draw_over.Statement.{statement}
+use Rattle.audit.proofs.symbols.draw_over.Tie as tie
+
+abbrev drawing : ℕ → ℕ → List ℕ → List ℕ → ℕ → ℕ
+drawing start end old cells i = symbolOf start end i (getD old i 0) (getD cells i 0)
+
+abbrev Inv-loop : tie.InvT-loop
+Inv-loop cells start end drawn₀ k₀ k-end drawn k =
+    (k ≤ length cells) × Filled (λ i. i) (drawing start end drawn₀ cells) drawn₀ drawn k
+
+abbrev μ-loop : tie.MeasureT-loop
+μ-loop cells start end drawn₀ k₀ k-end drawn k = length cells - k
+
+loop-holds : tie.Need-loop-holds Inv-loop μ-loop
+loop-holds c = (omega arith, fill-none _ _ _)
+
+slice-read-symbol : tie.Need-slice-read-symbol Inv-loop μ-loop
+slice-read-symbol c = omega (arith, c .before .before .loop .inv .1 .size)
+
+shared-slice-read-symbol : tie.Need-shared-slice-read-symbol Inv-loop μ-loop
+shared-slice-read-symbol c = omega arith
+
+symbol-requires : tie.Need-symbol-requires Inv-loop μ-loop
+symbol-requires c κs = search needs
+
+slice-write-drawn : tie.Need-slice-write-drawn Inv-loop μ-loop
+slice-write-drawn c = omega (arith, c .before .before .before .before .loop .inv .1 .size)
+
+add-k : tie.Need-add-k Inv-loop μ-loop
+add-k c = omega arith
+
+loop-less : tie.Need-loop-less Inv-loop μ-loop
+loop-less c = omega arith
+
+loop-again : tie.Need-loop-again Inv-loop μ-loop
+loop-again c =
+    let l = c .before .before .before .before .loop in
+    let a = c .before .before .before .before .before .before .before .args in
+    let still = l .inv .1 .kept (l .k) (λ i h q. omega arith) in (
+      omega arith,
+      fill-more _ _ _ _ _ _ _ (l .inv .1) (omega (arith, l .inv .1 .size)) (λ i h q. omega arith) refl
+          (c .symbol .ensures ∙ ap (λ (x : ℕ). symbolOf (a .start) (a .end) (l .k) x (getD (now (a .cells)) (l .k) 0)) still),
+    )
+
+same-length : tie.Need-same-length Inv-loop μ-loop
+same-length c = c .before .loop .inv .1 .size
+
+returns : tie.Need-returns Inv-loop μ-loop
+returns c =
+    let l = c .before .loop in
+    let a = c .before .before .before .before .args in
+    let e : l .k ≡ length (now (a .cells)) = omega arith in
+    subst (λ (n : ℕ). Filled (λ i. i) (drawing (a .start) (a .end) (now (a .drawn)) (now (a .cells))) (now (a .drawn)) (l .drawn) n) e (l .inv .1)
+
+pub draw-over-spec : {M : Type 1} → statement M
+draw-over-spec =
+    tie.close
+    (tie.spec
+    Inv-loop
+    μ-loop
+    loop-holds
+    slice-read-symbol
+    shared-slice-read-symbol
+    symbol-requires
+    slice-write-drawn
+    add-k
+    loop-less
+    loop-again
+    same-length
+    returns)

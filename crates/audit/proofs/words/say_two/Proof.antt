@@ -1,0 +1,39 @@
+-- `audit::words::say_two` meets its contract. Assumes nothing.
+use mathlib.Core.Path.{sym}
+use native.Mathlib.Omega.{arith}
+use borrow.Author.Needs.{needs}
+use borrow.Author.Tests.{lt-ltb, le-ltb}
+use Rattle.text.proofs.Decimal.{length-decimal}
+use Rattle.audit.specs.Words.{two}
+use Rattle.audit.proofs.words.say_two.Statement.{statement}
+use Rattle.audit.proofs.words.say_two.Tie as tie
+
+say-spaced-requires : tie.Need-say-spaced-requires
+say-spaced-requires c κs = search needs
+
+same-length : tie.Need-same-length
+same-length c = search needs
+
+returns : tie.Need-returns
+unfolding two
+returns c =
+    let said = c .before .before in
+    rw (lt-ltb _ _ (said .before .before .if1 .taken)) (said .say-spaced .ensures)
+
+say-number-requires : tie.Need-say-number-requires
+say-number-requires c κs = search needs
+
+same-length-2 : tie.Need-same-length-2
+same-length-2 c = search needs
+
+returns-2 : tie.Need-returns-2
+unfolding two
+returns-2 c =
+    let said = c .before .before in
+    let n = said .before .before .before .before .args .n in
+    rw (le-ltb _ _ (said .before .before .if1 .left)) (said .say-number .ensures, omega (arith, said .say-number .ensures .place, length-decimal n))
+
+pub say-two-spec : {M : Type 1} → statement M
+say-two-spec =
+    tie.close
+    (tie.spec say-spaced-requires same-length returns say-number-requires same-length-2 returns-2)
