@@ -1,4 +1,5 @@
 //! Short runs by turns, and their medians.
+use crate::inputs::Cube;
 use std::time::{Duration, Instant};
 
 /// How many short runs of each side, and how long one takes at least.
@@ -10,12 +11,22 @@ pub type Fields = [u32; 5];
 
 /// One call on some inputs: what the library does with input i and its buffers, what plain Rust does, and when the buffers are the same.
 pub struct Case<'a, B, C> {
+    pub cube: Cube,
     pub call: &'static str,
     pub input: String,
     pub inputs: usize,
     pub library: &'a dyn Fn(usize, &mut B) -> Fields,
     pub plain: &'a dyn Fn(usize, &mut C) -> Fields,
     pub same: fn(&B, &C) -> bool,
+}
+
+/// What was seen of a case: nanoseconds for one call of each side, the ratio of the two, and between which ratios half of the pairs of runs lie.
+pub struct Row {
+    pub cube: Cube,
+    pub call: &'static str,
+    pub input: String,
+    pub ratio: f64,
+    pub spread: [f64; 2],
 }
 
 /// Has a value used, as far as the compiler can tell.
@@ -31,14 +42,16 @@ fn short_run<B>(call: &dyn Fn(usize, &mut B) -> Fields, buffer: &mut B, calls: u
     begun.elapsed()
 }
 
-fn median(mut times: Vec<Duration>) -> Duration {
-    times.sort_unstable();
-    times[times.len() / 2]
+/// The part of sorted numbers that lies below, as 0.5 for the median.
+fn at(part: f64, numbers: impl Iterator<Item = f64>) -> f64 {
+    let mut sorted: Vec<f64> = numbers.collect();
+    sorted.sort_unstable_by(f64::total_cmp);
+    sorted[(part * (sorted.len() - 1) as f64).round() as usize]
 }
 
 impl<B, C> Case<'_, B, C> {
-    /// Compares the results, then prints a row of the table: nanoseconds for one call, and the ratio.
-    pub fn run(&self, mut ours: B, mut theirs: C) {
+    /// Compares the results, then times the two and prints a row of the table.
+    pub fn run(&self, mut ours: B, mut theirs: C) -> Row {
         for i in 0..self.inputs {
             let (a, b) = ((self.library)(i, &mut ours), (self.plain)(i, &mut theirs));
             if a != b || !(self.same)(&ours, &theirs) {
@@ -50,13 +63,20 @@ impl<B, C> Case<'_, B, C> {
         while short_run(self.library, &mut ours, calls) < LONG {
             calls *= 2;
         }
-        let (mut library, mut plain) = (Vec::new(), Vec::new());
+        let mut runs = Vec::new();
         for _ in 0..RUNS {
-            library.push(short_run(self.library, &mut ours, calls));
-            plain.push(short_run(self.plain, &mut theirs, calls));
+            let library = short_run(self.library, &mut ours, calls).as_nanos() as f64;
+            let plain = short_run(self.plain, &mut theirs, calls).as_nanos() as f64;
+            runs.push((library / calls as f64, plain / calls as f64));
         }
-        let one = |times| median(times).as_nanos() as f64 / calls as f64;
-        let (library, plain) = (one(library), one(plain));
-        println!("| `{}` | {} | {library:.0} | {plain:.0} | {:.2} |", self.call, self.input, library / plain);
+        let (library, plain) = (at(0.5, runs.iter().map(|r| r.0)), at(0.5, runs.iter().map(|r| r.1)));
+        let spread = [0.25, 0.75].map(|part| at(part, runs.iter().map(|r| r.0 / r.1)));
+        let row = Row { cube: self.cube, call: self.call, input: self.input.clone(), ratio: library / plain, spread };
+        let [low, high] = spread;
+        println!(
+            "| `{}` | {} | {} | {library:.0} | {plain:.0} | {:.2} | {low:.2} to {high:.2} |",
+            row.call, row.cube, row.input, row.ratio
+        );
+        row
     }
 }
