@@ -1,4 +1,10 @@
-//! A generator of numbers that look random and are the same in each run.
+//! A generator of numbers that look random and are the same in each run with the same SEED in the environment (none: 0).
+use std::sync::OnceLock;
+
+fn run() -> u64 {
+    static SEED: OnceLock<u64> = OnceLock::new();
+    *SEED.get_or_init(|| std::env::var("SEED").map_or(0, |word| word.parse().expect("SEED is a number")))
+}
 
 pub struct Random {
     state: u64,
@@ -6,7 +12,7 @@ pub struct Random {
 
 impl Random {
     pub fn new(seed: u64) -> Random {
-        Random { state: seed }
+        Random { state: seed.wrapping_add(run().wrapping_mul(0xD134_2543_DE82_EF95)) }
     }
 
     /// SplitMix64.
