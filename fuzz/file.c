@@ -1,5 +1,5 @@
-/* Fuzzes dk_read_map, and dk_write_map on what was read: each answer and each lent byte against the scope paper's words on map files, as told here once
- * more, a byte at a time. The input is how long the notes before it are made, how much room is lent for the cells, and the file. */
+/* Fuzzes dk_read_map, and dk_write_map on what was read: each answer and each lent byte against the scope paper's words on map files, told
+ * here once more, a byte at a time. The input is how long the notes before it are made, how much room is lent for the cells, and the file. */
 #include "fuzz.h"
 
 /* What reading a file is to answer. */

@@ -1,6 +1,6 @@
-/* Fuzzes the calls on a state of the talking nodes, dk_hear, dk_sound, dk_outstanding and dk_fresh: each answer and each lent byte against the scope
- * paper's words, as told here once more, a node at a time. The input is the sizes, the orientation and either the bytes of a state, as they come,
- * or cells, from which a fresh state is made; then what is to be heard, and which bytes of the state are to be spoilt on the way. */
+/* Fuzzes the calls on a state of the talking nodes, dk_hear, dk_sound, dk_outstanding and dk_fresh: each answer and each lent byte against the
+ * scope paper's words, told here once more, a node at a time. The input is the sizes, the orientation and either the bytes of a state, as they
+ * come, or cells, from which a fresh state is made; then what is to be heard, and which bytes of the state are to be spoilt on the way. */
 #include "fuzz.h"
 
 static uint32_t w, h, d, orientation;
