@@ -67,10 +67,10 @@ class Field:
         return call("dk_outstanding", (*self.sizes, self.orientation), self.state).count
 
     def news(self):
-        """The words that are outstanding, as the speakers hold them now."""
+        """The words that are outstanding, as the speakers hold them now. Of a faulty neighbour a node has heard 1, its own byte: no news."""
         pairs = [(node, direction) for node in range(len(self._state) // 7) for direction in range(6) if self.own(node) != 1]
         words = [Word(node, direction, self._speaker(node, direction)) for node, direction in pairs]
-        return [word for word in words if word.word not in (None, 1, self.heard(word.listener, word.direction))]
+        return [word for word in words if word.word not in (None, self.heard(word.listener, word.direction))]
 
     def hear(self, listener, direction, word):
         """A node hears a word, 0, 2, 4 or 6, from its neighbour in a direction. A late word takes nothing away."""
