@@ -101,7 +101,7 @@ static uint32_t hearing_refusal(uint32_t listener, uint32_t direction, uint32_t 
     return (word & ~(uint32_t)state[7 * neighbour]) != 0 ? DK_NOT_HELD : 0;
 }
 
-/* Hearing changes the one heard byte and the listener's own, or nothing; heard once more, nothing changes. */
+/* Hearing changes the one heard byte and the listener's own, or nothing; heard once more, or a late 0, nothing changes. */
 static uint32_t hear(uint32_t listener, uint32_t direction, uint32_t word) {
     uint8_t *before = lent(state, length), *after;
     uint32_t refused = hearing_refusal(listener, direction, word);
@@ -111,8 +111,8 @@ static uint32_t hear(uint32_t listener, uint32_t direction, uint32_t word) {
     if (refused == 0) {
         before[7 * listener + 1 + direction] |= (uint8_t)word;
         before[7 * listener] = by_rule(listener);
-        heard = dk_hear(w, h, d, orientation, listener, direction, word, state, length);
-        CHECK(heard.refusal == 0 || heard.refusal == DK_NOT_HELD);
+        CHECK(dk_hear(w, h, d, orientation, listener, direction, word, state, length).refusal == 0);
+        CHECK(dk_hear(w, h, d, orientation, listener, direction, 0, state, length).refusal == 0);
     }
     CHECK(same(after, before, length) && same(state, after, length));
     free(before), free(after);
