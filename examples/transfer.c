@@ -1,5 +1,5 @@
-/* May a transfer go, and by which way? transfer MAP START END reads a map file and prints the hops and the nodes of the route, or the number of
- * the refusal, as include/dukthari.h has it. Status: 0 granted, 1 refused, 2 what was asked could not be read.
+/* May a transfer go, and by which way? transfer MAP START END reads a map file and prints the hops and the nodes of the route, or the number
+ * of the refusal, as include/dukthari.h has it. Status: 0 granted, 1 refused, 2 what was asked could not be read.
  *
  *     gcc transfer.c $(pkg-config --cflags --libs dukthari) -o transfer
  */

@@ -1,6 +1,6 @@
 #!/usr/bin/env python3
-"""May a transfer go, and by which way? transfer.py MAP START END reads a map file and prints the hops and the nodes of the route, or why it was
-refused. Status: 0 granted, 1 refused, 2 what was asked could not be read. The module is in python/: PYTHONPATH must name that folder."""
+"""May a transfer go, and by which way? transfer.py MAP START END reads a map file and prints the hops and the nodes of the route, or why it
+was refused. Status: 0 granted, 1 refused, 2 what was asked could not be read. The module is in python/: PYTHONPATH must name that folder."""
 
 import sys
 

@@ -1,5 +1,6 @@
-/* Fuzzes dk_read_map, and dk_write_map on what was read: each answer and each lent byte against the scope paper's words on map files, as told here once
- * more, a byte at a time. The input is how long the notes before it are made, how much room is lent for the cells, and the file. */
+/* Fuzzes dk_read_map, and dk_write_map on what was read and on numbers and cells as they come: each answer and each lent byte against the
+ * scope paper's words on map files, told here once more, a byte at a time. The input is how long the notes before it are made, how much room
+ * is lent for the cells, and the file; the file's bytes are also taken for sizes and cells to be written. */
 #include "fuzz.h"
 
 /* What reading a file is to answer. */
@@ -54,6 +55,32 @@ static void write_back(dk_map_answer map, const uint8_t *cells, const uint8_t *f
     free(exact), free(out), free(again);
 }
 
+/* Writing cells as they come, with sizes as they come: a file that is read again, or the refusal, and then nothing has changed. */
+static void write_raw(void) {
+    uint32_t w = next() % 19, h = next() % 19, d = next() % 19, nodes = in_range(w, h, d) ? w * h * d : 4, k, bad = nodes;
+    size_t count = next() < 240 ? nodes : next16() % 4200, room = next() < 240 ? nodes + 12 : next16() % 4200;
+    uint8_t *cells = lent(NULL, count), *kept, *out = lent(NULL, room);
+    uint32_t refusal = !in_range(w, h, d) ? DK_BAD_SIZES : count != nodes ? DK_BAD_LENGTH : 0;
+    dk_counted written;
+    for (k = 0; k < count; k++)
+        cells[k] = next() % 8 < 7 ? next() % 2 : next();
+    for (k = 0; k < nodes && refusal == 0 && bad == nodes; k++)
+        if (cells[k] > 1)
+            bad = k;
+    refusal = refusal != 0 ? refusal : bad != nodes ? DK_BAD_CELL : room < nodes + 12 ? DK_NO_ROOM : 0;
+    kept = lent(cells, count);
+    written = dk_write_map(w, h, d, cells, count, out, room);
+    CHECK(written.refusal == refusal && written.bad == (refusal == DK_BAD_CELL ? bad : 0) && same(cells, kept, count));
+    if (refusal != 0) {
+        CHECK(written.count == 0 && untouched(out, room));
+    } else {
+        dk_map_answer read = expected(out, nodes + 12, nodes);
+        CHECK(written.count == nodes + 12 && read.refusal == 0 && read.w == w && read.h == h && read.d == d);
+        CHECK(same(out, cells, nodes) && untouched(out + nodes + 12, room - nodes - 12));
+    }
+    free(cells), free(kept), free(out);
+}
+
 int LLVMFuzzerTestOneInput(const uint8_t *data, size_t size) {
     uint8_t *file, *kept, *cells;
     size_t length, notes, room;
@@ -79,5 +106,6 @@ int LLVMFuzzerTestOneInput(const uint8_t *data, size_t size) {
         write_back(got, cells, from);
     }
     free(file), free(kept), free(cells);
+    write_raw();
     return 0;
 }

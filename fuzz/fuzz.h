@@ -1,5 +1,5 @@
-/* What the two fuzz programs share: the bytes that the fuzzer makes, taken one after another, and the buffers that are lent to a call. Each is a
- * block of its own with exactly its length, so that the address sanitizer stops a touch outside it. */
+/* What the two fuzz programs share: the bytes that the fuzzer makes, taken one after another, and the buffers that are lent to a call. Each is
+ * a block of its own with exactly its length, so that the address sanitizer stops a touch outside it. */
 #ifndef FUZZ_H
 #define FUZZ_H
 

@@ -1,6 +1,6 @@
-/* Fuzzes the calls on a state of the talking nodes, dk_hear, dk_sound, dk_outstanding and dk_fresh: each answer and each lent byte against the scope
- * paper's words, as told here once more, a node at a time. The input is the sizes, the orientation and either the bytes of a state, as they come,
- * or cells, from which a fresh state is made; then what is to be heard, and which bytes of the state are to be spoilt on the way. */
+/* Fuzzes the calls on a state of the talking nodes, dk_hear, dk_sound, dk_outstanding and dk_fresh: each answer and each lent byte against the
+ * scope paper's words, told here once more, a node at a time. The input is the sizes, the orientation and either the bytes of a state, as they
+ * come, or cells, from which a fresh state is made; then what is to be heard, and which bytes of the state are to be spoilt on the way. */
 #include "fuzz.h"
 
 static uint32_t w, h, d, orientation;
@@ -101,7 +101,7 @@ static uint32_t hearing_refusal(uint32_t listener, uint32_t direction, uint32_t 
     return (word & ~(uint32_t)state[7 * neighbour]) != 0 ? DK_NOT_HELD : 0;
 }
 
-/* Hearing changes the one heard byte and the listener's own, or nothing; heard once more, nothing changes. */
+/* Hearing changes the one heard byte and the listener's own, or nothing; heard once more, or a late 0, nothing changes. */
 static uint32_t hear(uint32_t listener, uint32_t direction, uint32_t word) {
     uint8_t *before = lent(state, length), *after;
     uint32_t refused = hearing_refusal(listener, direction, word);
@@ -111,8 +111,8 @@ static uint32_t hear(uint32_t listener, uint32_t direction, uint32_t word) {
     if (refused == 0) {
         before[7 * listener + 1 + direction] |= (uint8_t)word;
         before[7 * listener] = by_rule(listener);
-        heard = dk_hear(w, h, d, orientation, listener, direction, word, state, length);
-        CHECK(heard.refusal == 0 || heard.refusal == DK_NOT_HELD);
+        CHECK(dk_hear(w, h, d, orientation, listener, direction, word, state, length).refusal == 0);
+        CHECK(dk_hear(w, h, d, orientation, listener, direction, 0, state, length).refusal == 0);
     }
     CHECK(same(after, before, length) && same(state, after, length));
     free(before), free(after);
@@ -121,7 +121,7 @@ static uint32_t hear(uint32_t listener, uint32_t direction, uint32_t word) {
 
 /* A fresh state of cells: every word heard is 0, and own bytes follow from that. */
 static void fresh(void) {
-    uint32_t k, j, many = nodes == 0 ? 4 : nodes, bad = many;
+    uint32_t other = next(), k, j, many = other >= 250 ? other : nodes == 0 ? 4 : nodes, bad = many, first;
     uint8_t *cells = lent(NULL, many), *kept, *before = lent(state, length);
     dk_done made;
     for (k = 0; k < many; k++) {
@@ -133,11 +133,13 @@ static void fresh(void) {
     kept = lent(cells, many);
     made = dk_fresh(w, h, d, orientation, cells, many, state, length);
     CHECK(same(cells, kept, many));
-    if (nodes == 0 || length != 7 * nodes || bad != many || orientation > 7) {
-        uint32_t first = nodes == 0 ? DK_BAD_SIZES : length != 7 * nodes ? DK_BAD_LENGTH : bad != many ? DK_BAD_CELL : DK_BAD_NUMBER;
-        CHECK(made.refusal == first && made.bad == (first == DK_BAD_CELL ? bad : 0) && same(state, before, length));
+    first = nodes == 0 ? DK_BAD_SIZES : many != nodes || length != 7 * nodes ? DK_BAD_LENGTH : bad != many ? DK_BAD_CELL : 0;
+    first = first != 0 ? first : orientation > 7 ? DK_BAD_NUMBER : 0;
+    CHECK(made.refusal == first && made.bad == (first == DK_BAD_CELL ? bad : 0));
+    if (first != 0) {
+        CHECK(same(state, before, length));
     } else {
-        CHECK(made.refusal == 0 && made.bad == 0 && sound());
+        CHECK(sound());
         for (k = 0; k < nodes; k++)
             for (j = 0; j < 6; j++)
                 CHECK(faulty(k) == cells[k] && (state[7 * k + 1 + j] & 6) == 0);

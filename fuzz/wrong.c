@@ -1,5 +1,5 @@
-/* Wrong libraries, one for each number WRONG: the right call is asked, and something about it is made wrong. fuzz/wrong sees to it that the fuzz
- * programs find each. */
+/* Wrong libraries, one for each number WRONG: the right call is asked, and something about it is made wrong. fuzz/wrong sees to it that the
+ * fuzz programs find each. */
 #include "dukthari.h"
 #include <stdlib.h>
 #include <string.h>

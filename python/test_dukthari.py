@@ -7,7 +7,7 @@ import re
 import unittest
 
 import dukthari
-from dukthari import calls, Component, Field, Map, Verdict
+from dukthari import Component, Field, Map, Verdict, calls
 
 TOP = os.path.join(os.path.dirname(os.path.abspath(__file__)), "..")
 
@@ -39,9 +39,9 @@ class Samples(unittest.TestCase):
         self.assertEqual(p().verdict(6, 6), Verdict(0, 0))
         self.assertEqual(p().route(6, 6), [6])
         self.assertEqual(p().verdict(5, 6).hops, 1)
-        for start, end, refusal in [(0, 12, dukthari.NoPath), (2, 17, dukthari.NoPath), (7, 24, dukthari.FaultyEnd), (25, 7, dukthari.BadNumber)]:
-            self.assertRaises(refusal, p().verdict, start, end)
-            self.assertRaises(refusal, p().route, start, end)
+        for start, end, number in [(0, 12, 10), (2, 17, 10), (7, 24, 9), (25, 7, 5)]:
+            self.assertRaises(dukthari.REFUSALS[number], p().verdict, start, end)
+            self.assertRaises(dukthari.REFUSALS[number], p().route, start, end)
 
     def test_talking_nodes(self):
         field = Field.fresh(Map(4, 4, 1, [0, 0, 0, 0, 0, 0, 1, 0, 1, 1, 0, 0, 0, 0, 0, 0]), 0)

@@ -15,11 +15,11 @@ Traceback (most recent call last):
     ...
 dukthari.refusals.NoPath: refused 10: no path: every way of the least length from start to end meets a faulty node
 
-A node (x, y, z) has the number x + w * (y + h * z). Directions are 0 for +X, 1 for -X, 2 +Y, 3 -Y, 4 +Z, 5 -Z. In an orientation, 0 to 7, X runs
-down if bit 0 is set, Y if bit 1, Z if bit 2.
+A node (x, y, z) has the number x + w * (y + h * z). Directions are 0 for +X, 1 for -X, 2 +Y, 3 -Y, 4 +Z, 5 -Z. In an orientation, 0 to 7,
+X runs down if bit 0 is set, Y if bit 1, Z if bit 2.
 
-Every answer is the proved library's. A call that it refuses raises one of the exceptions below Refused, and has changed nothing. The shared
-library is target/shared/libdukthari.so, which `make` makes, or the file that the environment names in DUKTHARI_LIBRARY.
+Every answer is the proved library's. A call that it refuses raises one of the exceptions below Refused, and has changed nothing. The
+shared library is target/shared/libdukthari.so, which `make` makes, or the file that the environment names in DUKTHARI_LIBRARY.
 """
 
 from .calls import LIBRARY

@@ -11,8 +11,8 @@ Word.__doc__ = "A word that a listener has yet to hear from its neighbour in a d
 
 
 class Field:
-    """The state of the talking nodes of a mesh in one orientation: seven bytes for each node, its own mark byte and then what it has heard from
-    directions 0 to 5. It is always sound: it begins so, and hearing keeps it so.
+    """The state of the talking nodes of a mesh in one orientation: seven bytes for each node, its own mark byte and then what it has heard
+    from directions 0 to 5. It is always sound: it begins so, and hearing keeps it so.
 
     >>> from dukthari import Field, Map
     >>> shelf = Map(4, 4, 1)
@@ -53,8 +53,8 @@ class Field:
         return self._state[7 * node]
 
     def heard(self, node, direction):
-        """The byte that a node has heard from a direction: a word, 8 where no neighbour exists, 1 where it is faulty. A faulty node has heard
-        0."""
+        """The byte that a node has heard from a direction: a word, 8 where no neighbour exists, 1 where it is faulty. A faulty node has
+        heard 0."""
         call("dk_step", (*self.sizes, *self._place(node), direction))
         return self._state[7 * node + 1 + direction]
 
@@ -67,10 +67,10 @@ class Field:
         return call("dk_outstanding", (*self.sizes, self.orientation), self.state).count
 
     def news(self):
-        """The words that are outstanding, as the speakers hold them now."""
+        """The words that are outstanding, as the speakers hold them now. Of a faulty neighbour a node has heard 1, its own byte: no news."""
         pairs = [(node, direction) for node in range(len(self._state) // 7) for direction in range(6) if self.own(node) != 1]
         words = [Word(node, direction, self._speaker(node, direction)) for node, direction in pairs]
-        return [word for word in words if word.word not in (None, 1, self.heard(word.listener, word.direction))]
+        return [word for word in words if word.word not in (None, self.heard(word.listener, word.direction))]
 
     def hear(self, listener, direction, word):
         """A node hears a word, 0, 2, 4 or 6, from its neighbour in a direction. A late word takes nothing away."""

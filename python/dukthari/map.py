@@ -109,8 +109,11 @@ class Map:
     def components(self, orientation):
         """For each node the number of its component, 0 for a safe one; and a record for each component, that of number i at i - 1.
 
-        >>> Map(3, 2, 1, [1, 0, 0, 0, 0, 1]).components(0)
-        ([1, 0, 0, 0, 0, 2], [Component(count=1, least=(0, 0, 0), greatest=(0, 0, 0)), Component(count=1, least=(2, 1, 0), greatest=(2, 1, 0))])
+        >>> table, records = Map(3, 2, 1, [1, 0, 0, 1, 0, 1]).components(0)
+        >>> table
+        [1, 0, 0, 1, 0, 2]
+        >>> records[0]
+        Component(count=2, least=(0, 0, 0), greatest=(0, 1, 0))
         """
         table = (c_uint16 * len(self._cells))()
         row = (Record * len(self._cells))()
@@ -128,8 +131,8 @@ class Map:
         return out[: call("dk_route", (*self.sizes, start, end), self._cells, out).count]
 
     def reached(self, start, end):
-        """For each node 1 where a path towards the end leads from the start to it, else 0. Where the end has 0, this shows that no path leads
-        there, one step at a time."""
+        """For each node 1 where a path towards the end leads from the start to it, else 0. Where the end has 0, this shows that no path
+        leads there, one step at a time."""
         out = (c_uint8 * len(self._cells))()
         call("dk_reached", (*self.sizes, start, end), self._cells, out)
         return bytes(out)

@@ -2,7 +2,8 @@
 use std::{env, fs, path::Path};
 
 fn main() {
-    let top = Path::new(env!("CARGO_MANIFEST_DIR")).join("../..");
+    let here = env::var("CARGO_MANIFEST_DIR").expect("cargo tells where the crate stands");
+    let top = Path::new(&here).join("../..");
     let header = top.join("include/dukthari.h");
     println!("cargo:rerun-if-changed={}", header.display());
     let text = fs::read_to_string(&header).unwrap_or_else(|e| panic!("{}: {e}", header.display()));

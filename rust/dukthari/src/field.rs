@@ -89,14 +89,14 @@ impl Field {
         self.outstanding() == 0
     }
 
-    /// The words that are outstanding, as the speakers hold them now.
+    /// The words that are outstanding, as the speakers hold them now. Of a faulty neighbour a node has heard 1, which is its own byte: no news.
     pub fn news(&self) -> Vec<Word> {
         let working = (0..).zip(self.state.chunks_exact(7)).filter(|(_, bytes)| bytes[0] != 1);
         let pairs =
             working.flat_map(|(listener, bytes)| (0..).zip(&bytes[1..]).map(move |(direction, heard)| (listener, direction, *heard)));
         let news = pairs.filter_map(|(listener, direction, heard)| {
             let word = self.speaker(listener, direction)?;
-            (word != 1 && word != heard).then(|| Word { listener, direction, word: u32::from(word) })
+            (word != heard).then(|| Word { listener, direction, word: u32::from(word) })
         });
         news.collect()
     }

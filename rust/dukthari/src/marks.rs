@@ -19,12 +19,12 @@ impl Mark {
         self.0 & 1 != 0
     }
 
-    /// Nothing that enters can leave ahead: on every axis the neighbour ahead is faulty or useless.
+    /// Nothing that enters can leave ahead: on every axis that counts the neighbour ahead is faulty or useless.
     pub fn is_useless(self) -> bool {
         self.0 & 2 != 0
     }
 
-    /// Nothing can enter from behind: on every axis the neighbour behind is faulty or can't be reached.
+    /// Nothing can enter from behind: on every axis that counts the neighbour behind is faulty or can't be reached.
     pub fn is_cannot_reach(self) -> bool {
         self.0 & 4 != 0
     }

@@ -96,3 +96,35 @@ fn a_flaw_in_words() {
     assert_eq!(words(&dots(2, 17, 1)), "line 17, column 1: a layer has 2 to 16 rows");
     assert_eq!(words(&dots(2, 2, 17)), "line 49, column 1: a drawing has 1 to 16 layers");
 }
+
+/// Of any text at all: a map whose drawing gives it back, or a flaw that lies in the text or where its next line or character would stand.
+#[test]
+fn any_text_is_read_or_refused() {
+    let mut number = 20_261_115_u64;
+    let mut below = |limit: usize| {
+        number = number.wrapping_mul(6_364_136_223_846_793_005).wrapping_add(1_442_695_040_888_963_407);
+        (number >> 33) as usize % limit
+    };
+    let (mut read, mut refused) = (0, 0);
+    for _ in 0..20_000 {
+        let (width, height, layers) = (1 + below(4), 1 + below(4), 1 + below(3));
+        let mut text: Vec<char> = dots(width, height, layers).chars().collect();
+        for _ in 0..below(4) {
+            let at = below(text.len());
+            text[at] = ['#', '.', '\n', '\r', 'x', 'é'][below(6)];
+        }
+        let text: String = text.into_iter().collect();
+        match text.parse::<Map>() {
+            Ok(map) => {
+                read += 1;
+                assert_eq!(map.to_string().parse(), Ok(map));
+            }
+            Err(BadDrawing { line, column, .. }) => {
+                refused += 1;
+                let row = text.lines().nth(line - 1).unwrap_or("");
+                assert!(line <= text.lines().count() + 1 && column <= row.chars().count() + 1, "{text:?}: line {line}, column {column}");
+            }
+        }
+    }
+    assert!(read > 2000 && refused > 2000, "{read} read, {refused} refused");
+}
