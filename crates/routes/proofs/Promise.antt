@@ -18,7 +18,7 @@ use Rattle.mesh.proofs.Bits.{bit-le, bit-one}
 use Rattle.mesh.proofs.Tables.{sum-same}
 use Rattle.mesh.proofs.Numbers.{number-of, number-lt, place-in, place-of}
 use Rattle.mesh.proofs.Steps.{next-in}
-use Rattle.mesh.proofs.Answers.{split, kept, room-granted}
+use Rattle.mesh.proofs.Answers.{split, stands, kept, room-granted}
 use Rattle.mesh.specs.declared.Sizes.{Sizes}
 use Rattle.mesh.specs.declared.Place.{Place}
 use Rattle.mesh.specs.declared.Refusal.{Refusal}
@@ -37,7 +37,7 @@ use Rattle.routes.proofs.Paths.{leads-iff, path-iff}
 use Rattle.routes.proofs.Offered.{offered-bit, offered-lt, offered-end, route-lowest, route-leads, route-length}
 use Rattle.routes.proofs.Reached.{start-reached, reached-on, closed-refuses, reached-length, reached-byte, byte-iff, end-byte}
 use Rattle.routes.proofs.Direct.{path-direct, begins-iff, lowest-takes}
-use Rattle.routes.proofs.Verdicts.{ends-iff, faulty-iff, granted-iff, refused-iff}
+use Rattle.routes.proofs.Verdicts.{ends-iff, faulty-iff, early, granted-iff, refused-iff}
 use Rattle.routes.specs.declared.Verdict.the-variants.{Granted, NotGranted}
 
 -- ---- answers and the checks that they come from
@@ -84,13 +84,16 @@ module _ (S : Sizes) (cells : List ℕ) (s e : ℕ) where
   nine = earlier (checkEnds S cells s e) (leads m to from to) NoPath FaultyEnd (λ z. omega arith)
 
   verdict-promise : VerdictPromise S cells s e (verdictAnswer S cells s e)
-  unfolding verdictAnswer
+  unfolding verdictAnswer verdictCheck
   verdict-promise =
       let h₀ = hops from to in
       let o₀ = offered m to from in
       let check = verdictCheck S cells s e in
       let passes = granted-iff S cells s e in
       record {
+        not-asked = λ n.
+            let (r, h, l) = early S cells s e n in
+            (r, verdict-refused check h₀ o₀ r .1 (stands (checkEnds S cells s e) (unless (leads m to from to) NoPath) r h), l);
         no-path = both (verdict-refused check h₀ o₀ NoPath) (refused-iff S cells s e);
         faulty-end = both (verdict-refused check h₀ o₀ FaultyEnd) (both nine (faulty-iff S cells s e));
         granted = (

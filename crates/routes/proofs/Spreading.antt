@@ -12,6 +12,7 @@ use Rattle.mesh.specs.Tools.{bit, sum}
 use Rattle.mesh.specs.Mesh.{nodes, number, placeOf, Inside}
 use Rattle.mesh.specs.Cells.{Map, mapOf, cellAt, mayEnd}
 use Rattle.mesh.specs.Fill.{Filled}
+use Rattle.mesh.proofs.Bits.{bit-le}
 use Rattle.mesh.proofs.Fill.{front}
 use Rattle.mesh.proofs.Tests.{holds-true}
 use Rattle.mesh.proofs.Tables.{sum-same}
@@ -29,7 +30,7 @@ use Rattle.routes.specs.Offered.{reachedAt, reached, reachedCount}
 use Rattle.routes.specs.Entries.{checkEnds, reachedCheck, reachedAnswer, reachedWritten, reachedOut}
 use Rattle.routes.specs.Box.{between, reach, far, Within}
 use Rattle.routes.specs.Sweep.{entry, waysOf}
-use Rattle.routes.specs.Shown.{Shown}
+use Rattle.routes.specs.Shown.{Shown, Bits}
 use Rattle.routes.proofs.Differences.{hops-is}
 use Rattle.routes.proofs.Box.{held, reach-in}
 use Rattle.routes.proofs.Runs.{origin, reach-far}
@@ -98,6 +99,17 @@ module _ (m : Map) (s e : Place) (s-in : Inside (m .sizes) s) (e-in : Inside (m 
             ∙ other (placeOf (m .sizes) k) (place-in (m .sizes) k i) (λ f. off (sym (number-of (m .sizes) k) ∙ ap (number (m .sizes)) f))
             ∙ sym (reached-byte m s e k i)
 
+-- what is written in front, byte by byte
+pub front-byte : (m : Map) (s e : Place) (old new : List ℕ) → new ≡ reached m s e ++ drop (nodes (m .sizes)) old
+    → (k : ℕ) → k < nodes (m .sizes) → getD new k 0 ≡ bit (reachedAt m s e k)
+front-byte m s e old new f k l =
+    ap (λ (l : List ℕ). getD l k 0) f
+    ∙ List·getD-append (reached m s e) (drop (nodes (m .sizes)) old) 0 k (rw (reached-length m s e) l)
+    ∙ reached-byte m s e k l
+
+pub front-bits : (m : Map) (s e : Place) (old new : List ℕ) → new ≡ reached m s e ++ drop (nodes (m .sizes)) old → Bits new (nodes (m .sizes))
+front-bits m s e old new f k l = rw (front-byte m s e old new f k l) (bit-le (reachedAt m s e k))
+
 -- ---- the public call
 
 module _ (S : Sizes) (cells : List ℕ) (s e : ℕ) (old : List ℕ) where
@@ -114,13 +126,5 @@ module _ (S : Sizes) (cells : List ℕ) (s e : ℕ) (old : List ℕ) where
     pub reached-0 : nodes S ≤ length old → (n : ℕ) (new : List ℕ) → new ≡ reached (mapOf S cells) (placeOf S s) (placeOf S e) ++ drop (nodes S) old
         → n ≡ sum (nodes S) (λ k. getD new k 0) → (Number n ≡ reachedAnswer S cells s e (length old)) × (new ≡ reachedOut S cells s e old)
     unfolding reachedAnswer reachedCheck reachedWritten reachedCount
-    reached-0 h n new f c = rw (good, le-leb (nodes S) (length old) h) (ap Number (c ∙ sum-same (nodes S) _ _ byte), f)
-      where
-        m : Map
-        m = mapOf S cells
-
-        byte : (k : ℕ) → k < nodes S → getD new k 0 ≡ bit (reachedAt m (placeOf S s) (placeOf S e) k)
-        byte k l =
-            ap (λ (l : List ℕ). getD l k 0) f
-            ∙ List·getD-append (reached m (placeOf S s) (placeOf S e)) (drop (nodes S) old) 0 k (rw (reached-length m (placeOf S s) (placeOf S e)) l)
-            ∙ reached-byte m (placeOf S s) (placeOf S e) k l
+    reached-0 h n new f c = rw (good, le-leb (nodes S) (length old) h)
+        (ap Number (c ∙ sum-same (nodes S) _ _ (front-byte (mapOf S cells) (placeOf S s) (placeOf S e) old new f)), f)

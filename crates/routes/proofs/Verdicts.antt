@@ -1,7 +1,7 @@
 -- What the checks of a route decide, in the promise's words: passed exactly if the question is in order, both ends work and a path joins
 -- them; refused by 10 exactly if only the path is missing, and then every walk is longer than the Manhattan distance. No earlier check
 -- refuses by so high a number, so a refusal by 9 or by 10 tells that all before it have passed. Assumes nothing.
-use mathlib.Core.Path.{_≡_, refl, sym, _∙_}
+use mathlib.Core.Path.{_≡_, refl, sym, _∙_, subst}
 use mathlib.Core.Logic.{_↔_, inl, inr}
 use mathlib.Core.Bool.{Bool, true, false, cond, not}
 use mathlib.Core.List.{List}
@@ -15,7 +15,7 @@ use Rattle.mesh.specs.Mesh.{inRange, nodes, placeOf}
 use Rattle.mesh.specs.Cells.{Map, mapOf, cellAt, badCell, firstBad, mayEnd}
 use Rattle.mesh.specs.Answers.{answerNo, refusalNo, _andThen_, unless, checkSizes, checkMap, checkNode}
 use Rattle.mesh.proofs.Tests.{holds-true, bool-ext}
-use Rattle.mesh.proofs.Answers.{split, ok-of, node-granted, map-granted, map-in-order}
+use Rattle.mesh.proofs.Answers.{split, stands, refused, ok-of, node-granted, map-granted, map-in-order}
 use Rattle.mesh.proofs.Numbers.{place-in}
 use Rattle.mesh.specs.declared.Sizes.{Sizes}
 use Rattle.mesh.specs.declared.Place.{Place}
@@ -160,6 +160,12 @@ module _ (S : Sizes) (cells : List ℕ) (s e : ℕ) where
       let b = mayEnd (cellAt m to) in
       rw ends-are (no-then 9 asked end-checks (omega (arith, asked-no))
       (no-then 9 (unless a FaultyEnd) (unless b FaultyEnd) (no-unless 9 a FaultyEnd (omega arith)) (no-unless 9 b FaultyEnd (omega arith))))
+
+  -- a question that is not in order is refused before that
+  pub early : (InOrder S cells s e → ⊥) → (r : Refusal) × (checkEnds S cells s e ≡ Refused r) × (refusalNo r ≤ 5)
+  early n =
+      let (r, h) = refused asked (λ q. n (in-order .0 q)) in
+      (r, ends-are ∙ stands asked end-checks r h, subst (λ (a : Answer). answerNo a ≤ 5) h asked-no)
 
   -- ---- the path
 

@@ -14,6 +14,7 @@ use Rattle.mesh.specs.Mesh.{InRange, sizes, nodes, number, placeOf}
 use Rattle.mesh.specs.Steps.{next}
 use Rattle.mesh.specs.Cells.{Map, mapOf, cellAt, badCell, mayEnd, linked}
 use Rattle.mesh.specs.Marks.{markAt}
+use Rattle.mesh.specs.Answers.{refusalNo}
 use Rattle.mesh.specs.declared.Sizes.{Sizes}
 use Rattle.mesh.specs.declared.Place.{Place}
 use Rattle.mesh.specs.declared.Next.the-variants.{At}
@@ -36,7 +37,7 @@ module _ (S : Sizes) (cells : List ℕ) (s e : ℕ) where
   abbrev at : ℕ → Place
   at k = placeOf S k
 
-  -- it is in order: sizes in range, a cell for each node and none bad, two nodes. Else it is refused by 1, 2, 4 or 5.
+  -- it is in order: sizes in range, a cell for each node and none bad, two nodes
   pub record InOrder : Type 0 where
     pub sized : InRange S
     pub whole : length cells ≡ nodes S
@@ -79,9 +80,11 @@ module _ (S : Sizes) (cells : List ℕ) (s e : ℕ) where
 
   -- The verdict.
   pub record VerdictPromise (v : Verdict) : Type 0 where
-    -- refused by 10 exactly if both ends work and no path joins them, by 9 exactly if an end does not work; granted exactly if a path does;
-    pub no-path : (v ≡ NotGranted NoPath) ↔ (InOrder × BothWork × (Joined → ⊥))
+    -- refused by 1, 2, 4 or 5 where the question is not in order; by 9 exactly if an end does not work; by 10 exactly if both ends work and
+    -- no path joins them; granted exactly if one does;
+    pub not-asked : (InOrder → ⊥) → (r : Refusal) × (v ≡ NotGranted r) × (refusalNo r ≤ 5)
     pub faulty-end : (v ≡ NotGranted FaultyEnd) ↔ (InOrder × (BothWork → ⊥))
+    pub no-path : (v ≡ NotGranted NoPath) ↔ (InOrder × BothWork × (Joined → ⊥))
     pub granted : ((h o : ℕ) × (v ≡ Granted h o)) ↔ (InOrder × Joined)
     -- then the hops are the Manhattan distance, at most 45,
     pub far : (h o : ℕ) → v ≡ Granted h o → (h ≡ hops (at s) (at e)) × (h ≤ 45)

@@ -13,6 +13,10 @@ use Rattle.routes.specs.Box.{reach, Within}
 use Rattle.routes.specs.Sweep.{Seen}
 use Rattle.routes.specs.declared.Between.{Between}
 
+-- the first n bytes are 0 or 1
+abbrev pub Bits : List ℕ → ℕ → Type 0
+Bits bytes n = (k : ℕ) → k < n → getD bytes k 0 ≤ 1
+
 -- the first n rows of layer c have gone to their nodes, and a byte that was right stays right
 pub record Rows (S : Sizes) (g : Between) (c n : ℕ) (layer old new : List ℕ) : Type 0 where
   pub at : (a b : ℕ) → a ≤ g .x .steps → b < n → b ≤ g .y .steps → getD new (number S (reach g (place a b c))) 0 ≡ getD layer (a + 16 * b) 0

@@ -119,11 +119,12 @@ pub fn write_route(s: Sizes, cells: &[u8], p: Place, e: Place, out: &mut [u16]) 
     requires { ⌜ Ends s (now cells) p e ⌝ }
     ensures { λ r. ⌜ Routed (mapOf s (now (cells .entry))) p e (now (out .entry)) r (now (out .exit)) ⌝ }
 {
-    let n = hops(p, e) + 1;
+    let h = hops(p, e);
+    let n = h + 1;
     let g = between(e, p);
     let mut table = blank();
     keep_all(s, cells, g, &mut table);
-    if !leads_on(n - 1, ways_from(&table, g.far())) {
+    if !leads_on(h, ways_from(&table, g.far())) {
         return Numbered::NotNumbered(Refusal::NoPath);
     }
     if out.len() < n {

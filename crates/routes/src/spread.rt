@@ -21,7 +21,7 @@ ghost use Rattle.mesh.specs.Fill.{Filled};
 ghost use Rattle.routes.specs.Offered.{reached};
 ghost use Rattle.routes.specs.Box.{gone, far, OnAxis, Held};
 ghost use Rattle.routes.specs.Sweep.{Ready, Ends, Layers, WaysTo, seed};
-ghost use Rattle.routes.specs.Shown.{Rows, Shown};
+ghost use Rattle.routes.specs.Shown.{Rows, Shown, Bits};
 
 // The first n bytes become 0.
 fn clear(out: &mut [u8], n: usize)
@@ -113,15 +113,15 @@ pub fn write_reached(s: Sizes, cells: &[u8], p: Place, e: Place, out: &mut [u8])
     out[s.number(e)] = leads_on(hops(p, e), w) as u8;
 }
 
-// The sum of the first n bytes.
+// The sum of the first n bytes, each 0 or 1: 16 bits hold it.
 pub fn total(out: &[u8], n: usize) -> usize
-    requires { ⌜ (n ≤ length (now out)) × (n ≤ 4096) ⌝ }
+    requires { ⌜ (n ≤ length (now out)) × (n ≤ 4096) × Bits (now out) n ⌝ }
     ensures { λ r. ⌜ r ≡ sum n (λ k. getD (now (out .entry)) k 0) ⌝ }
 {
-    let mut t: u32 = 0;
+    let mut t: u16 = 0;
     let mut i = 0;
     while i < n {
-        t += out[i] as u32;
+        t += out[i] as u16;
         i += 1;
     }
     t as usize

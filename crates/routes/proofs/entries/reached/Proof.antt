@@ -7,11 +7,12 @@ use borrow.Author.Needs.{needs}
 use denote.Ref.{now}
 use lib.ListN.{length}
 use Rattle.mesh.specs.Mesh.{nodes, placeOf}
+use Rattle.mesh.specs.Cells.{mapOf}
 use Rattle.mesh.specs.declared.Answer.the-variants.{Done}
 use Rattle.routes.specs.Entries.{checkEnds}
 use Rattle.routes.specs.Sweep.{Ends}
 use Rattle.routes.proofs.Ends.{ends-granted}
-use Rattle.routes.proofs.Spreading.{reached-refused, reached-3, reached-0}
+use Rattle.routes.proofs.Spreading.{front-bits, reached-refused, reached-3, reached-0}
 use Rattle.routes.proofs.entries.reached.Statement.{statement}
 use Rattle.routes.proofs.entries.reached.Tie as tie
 
@@ -62,7 +63,16 @@ write-reached-requires : tie.Need-write-reached-requires
 write-reached-requires c κs = (rw (c .before .before .place .ensures, c .before .place2 .ensures) (ends (c .before .before .before .before .before)), room (c .before .before .before))
 
 total-requires : tie.Need-total-requires
-total-requires c κs = search needs
+total-requires c κs =
+    let w = c .before .before .before in
+    let i = w .before .before .before .before in
+    let a = i .before .before .before .before .before .before .before .args in (
+      search needs,
+      search needs,
+      rw (i .before .nodes .ensures .0) (front-bits (mapOf (a .s) (now (a .cells))) (placeOf (a .s) (a .start)) (placeOf (a .s) (a .end)) (now (a .out))
+          (w .write-reached .last .1 .1 .1 .1 .0)
+          (rw (← w .before .before .before .place .ensures, ← w .before .before .place2 .ensures) (w .write-reached .ensures))),
+    )
 
 same-length : tie.Need-same-length
 same-length c = search needs

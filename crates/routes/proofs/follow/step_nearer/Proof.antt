@@ -1,6 +1,6 @@
 -- `routes::follow::step_nearer` meets its contract: where a way is seen, a step is left. Assumes nothing.
 use mathlib.Core.Path.{_≡_, refl, sym, ap, _∙_}
-use Prim.Native.Nat.{_<_}
+use Prim.Native.Nat.{_≤_}
 use native.Mathlib.Omega.{arith}
 use borrow.Author.Needs.{needs}
 use borrow.Author.Tests.{eq-eqb, ne-eqb}
@@ -14,32 +14,36 @@ use Rattle.routes.proofs.follow.step_nearer.Tie as tie
 told : (c : tie.After-ways-from) → let a = c .before .before .args in towards (c .ways-from .result) (a .t) ≡ towards (waysIn (now (a .table)) (a .t)) (a .t)
 told c = let a = c .before .before .args in ap (λ (w : Ways). towards w (a .t)) (c .ways-from .ensures)
 
+-- where a way is seen, a step is left
+left : (c : tie.After-ways-from) →
+    let a = c .before .before .args in
+    let w = c .ways-from .result in
+    (w .x ≡ 1 → 1 ≤ a .t .x) × (w .y ≡ 1 → 1 ≤ a .t .y) × (w .z ≡ 1 → 1 ≤ a .t .z)
+left c =
+    let a = c .before .before .args in
+    let f = c .ways-from .ensures in (
+      λ h. entered-left (now (a .table)) (slot (a .t)) 1 (a .t .x) (sym (ap (λ (w : Ways). w .x) f) ∙ h),
+      λ h. entered-left (now (a .table)) (slot (a .t)) 16 (a .t .y) (sym (ap (λ (w : Ways). w .y) f) ∙ h),
+      λ h. entered-left (now (a .table)) (slot (a .t)) 256 (a .t .z) (sym (ap (λ (w : Ways). w .z) f) ∙ h),
+    )
+
 ways-from-requires : tie.Need-ways-from-requires
 ways-from-requires c κs = search needs
 
 sub-t5 : tie.Need-sub-t5
-sub-t5 c =
-    let w = c .before .before .before in
-    let a = w .before .before .args in
-    entered-left (now (a .table)) (slot (a .t)) 1 (a .t .x) (sym (ap (λ (w : Ways). w .x) (w .ways-from .ensures)) ∙ c .before .if1 .taken)
+sub-t5 c = let (x, y, z) = left (c .before .before .before) in search (x, y, z, c .before .if1 .taken)
 
 returns : tie.Need-returns
 returns c = (rw (eq-eqb _ _ (c .before .if1 .taken))) ∙ told (c .before .before .before)
 
 sub-t6 : tie.Need-sub-t6
-sub-t6 c =
-    let w = c .before .before .before .before .before in
-    let a = w .before .before .args in
-    entered-left (now (a .table)) (slot (a .t)) 16 (a .t .y) (sym (ap (λ (w : Ways). w .y) (w .ways-from .ensures)) ∙ c .before .if2 .taken)
+sub-t6 c = let (x, y, z) = left (c .before .before .before .before .before) in search (x, y, z, c .before .if2 .taken)
 
 returns-2 : tie.Need-returns-2
 returns-2 c = (rw (ne-eqb _ _ (c .before .before .before .if1 .left), eq-eqb _ _ (c .before .if2 .taken))) ∙ told (c .before .before .before .before .before)
 
 sub-t7 : tie.Need-sub-t7
-sub-t7 c =
-    let w = c .before .before .before .before .before .before .before in
-    let a = w .before .before .args in
-    entered-left (now (a .table)) (slot (a .t)) 256 (a .t .z) (sym (ap (λ (w : Ways). w .z) (w .ways-from .ensures)) ∙ c .before .if3 .taken)
+sub-t7 c = let (x, y, z) = left (c .before .before .before .before .before .before .before) in search (x, y, z, c .before .if3 .taken)
 
 returns-3 : tie.Need-returns-3
 returns-3 c =

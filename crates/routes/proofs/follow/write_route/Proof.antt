@@ -78,9 +78,6 @@ slice-aggregate-keep-all c = search needs
 keep-all-requires : tie.Need-keep-all-requires
 keep-all-requires c κs = (rw (c .before .before .between .ensures) (ready (c .before .before .before .before .before .before)), c .before .blank .ensures)
 
-sub-leads-on : tie.Need-sub-leads-on
-sub-leads-on c = search needs
-
 slice-aggregate-ways-from : tie.Need-slice-aggregate-ways-from
 slice-aggregate-ways-from c = search needs
 
@@ -118,9 +115,8 @@ told c =
     let k = w .before .before .before .before in
     let h = k .before .before .before .before in
     let s = h .before .before .before in
-    let n : h .hops .result + 1 - 1 ≡ hops (s .args .p) (s .args .e) = omega (arith, h .hops .ensures .0) in
     granted-is (map-of s) (s .args .p) (s .args .e) (s .pre .start-in) (s .pre .end-in) (s .pre .end-may) (small s) (k .keep-all .last .1 .1 .1 .0) (full k)
-    ∙ sym (c .leads-on .ensures ∙ asked _ _ (w .ways-from .result) _ n (ways w))
+    ∙ sym (c .leads-on .ensures ∙ asked _ _ (w .ways-from .result) _ (h .hops .ensures .0) (ways w))
 
 returns : tie.Need-returns
 returns c =
@@ -178,7 +174,6 @@ write-route-spec =
     blank-requires
     slice-aggregate-keep-all
     keep-all-requires
-    sub-leads-on
     slice-aggregate-ways-from
     far-requires
     ways-from-requires

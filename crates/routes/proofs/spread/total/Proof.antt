@@ -1,4 +1,4 @@
--- `routes::spread::total` meets its contract: a byte is at most 255. Assumes nothing.
+-- `routes::spread::total` meets its contract: the sum of so many bits is no more than their number. Assumes nothing.
 use mathlib.Core.Path.{_≡_, refl, sym, _∙_, ap, subst}
 use Prim.Native.Nat.{ℕ, _+_, _-_, _*_, _≤_}
 use native.Mathlib.Omega.{arith}
@@ -10,7 +10,7 @@ use Rattle.routes.proofs.spread.total.Statement.{statement}
 use Rattle.routes.proofs.spread.total.Tie as tie
 
 abbrev Inv-loop : tie.InvT-loop
-Inv-loop out n t₀ i₀ t i = (i ≤ n) × (t ≡ sum i (λ k. getD out k 0)) × (t ≤ 255 * i)
+Inv-loop out n t₀ i₀ t i = (i ≤ n) × (t ≡ sum i (λ k. getD out k 0)) × (t ≤ i)
 
 abbrev μ-loop : tie.MeasureT-loop
 μ-loop out n t₀ i₀ t i = n - i
@@ -22,11 +22,14 @@ loop-holds c = (omega arith, refl, omega arith)
 shared-slice-read-t : tie.Need-shared-slice-read-t Inv-loop μ-loop
 shared-slice-read-t c = omega arith
 
+bit-at : (c : tie.After-shared-slice-known Inv-loop μ-loop) → getD (now (c .before .before .before .args .out)) (c .before .before .loop .i) 0 ≤ 1
+bit-at c = c .before .before .before .pre .2 (c .before .before .loop .i) (omega arith)
+
 cast-t : tie.Need-cast-t Inv-loop μ-loop
-cast-t c = omega (arith, c .shared-slice-known .given (c .before .before .loop .i))
+cast-t c = omega (arith, bit-at c)
 
 add-t : tie.Need-add-t Inv-loop μ-loop
-add-t c = omega (arith, c .shared-slice-known .given (c .before .before .loop .i))
+add-t c = omega (arith, bit-at c)
 
 add-i : tie.Need-add-i Inv-loop μ-loop
 add-i c = omega arith
@@ -38,8 +41,7 @@ loop-again : tie.Need-loop-again Inv-loop μ-loop
 loop-again c =
     let l = c .before .before .loop in
     let a = c .before .before .before .args in
-    let b = c .shared-slice-known .given (l .i) in
-    (omega arith, omega (arith, sum-more (l .i) (λ k. getD (now (a .out)) k 0)), omega (arith, b))
+    (omega arith, omega (arith, sum-more (l .i) (λ k. getD (now (a .out)) k 0)), omega (arith, bit-at c))
 
 cast-result : tie.Need-cast-result Inv-loop μ-loop
 cast-result c = omega arith
