@@ -33,25 +33,6 @@ pub added-word : (b w : ℕ) → T (isWord (addMarks b w))
 unfolding addMarks
 added-word b w = byte-word λ a. has b a || has w a
 
--- ---- nothing changes where a word has no new mark
-
-set-itself : (s : List ℕ) (i : ℕ) → set s i (getD s i 0) ≡ s
-set-itself [] i = refl
-set-itself (x ∷ s) zero = refl
-set-itself (x ∷ s) (suc i) = ap (λ (t : List ℕ). x ∷ t) (set-itself s i)
-
-added-none : (b w : ℕ) → T (isWord b) → w noMoreThan b → addMarks b w ≡ b
-added-none b w v f = word-same (addMarks b w) b (added-word b w) v λ a. bool-ext (has (addMarks b w) a) (has b a)
-    (λ t. elim (added-marks b w a .0 t) [ inl x ↦ x | inr x ↦ f a x ])
-    (λ t. added-marks b w a .1 (inl t))
-
-pub nothing-new : (S : Sizes) (o : ℕ) (s : List ℕ) (k j w : ℕ) → T (isWord (heard s k j)) → own s k ≡ ruleByte S o (heard s k) → w noMoreThan heard s k j
-    → changed S o k j w s ≡ s
-unfolding changed ruledAt added
-nothing-new S o s k j w v e f =
-    let same : set s (7 * k + 1 + j) (addMarks (heard s k j) w) ≡ s = rw (added-none (heard s k j) w v f) (set-itself s (7 * k + 1 + j)) in
-    rw (same, sym e) (set-itself s (7 * k))
-
 -- ---- two bytes change
 
 apart : (k l i : ℕ) → i < 6 → 7 * k + 1 + i ≢ 7 * l
@@ -160,3 +141,22 @@ module _ (m : Map) (o : ℕ) (s : List ℕ) (z : SoundOn m o s) (l j w : ℕ) (p
       | inr e ↦ rw e (z .words k i t .0, λ a x. own-grows (neighbour S k i) a (z .words k i t .1 a x))
     ];
   }
+
+-- ---- nothing changes where a word has no new mark
+
+set-itself : (s : List ℕ) (i : ℕ) → set s i (getD s i 0) ≡ s
+set-itself [] i = refl
+set-itself (x ∷ s) zero = refl
+set-itself (x ∷ s) (suc i) = ap (λ (t : List ℕ). x ∷ t) (set-itself s i)
+
+added-none : (b w : ℕ) → T (isWord b) → w noMoreThan b → addMarks b w ≡ b
+added-none b w v f = word-same (addMarks b w) b (added-word b w) v λ a. bool-ext (has (addMarks b w) a) (has b a)
+    (λ t. elim (added-marks b w a .0 t) [ inl x ↦ x | inr x ↦ f a x ])
+    (λ t. added-marks b w a .1 (inl t))
+
+pub nothing-new : (S : Sizes) (o : ℕ) (s : List ℕ) (k j w : ℕ) → T (isWord (heard s k j)) → own s k ≡ ruleByte S o (heard s k) → w noMoreThan heard s k j
+    → changed S o k j w s ≡ s
+unfolding changed ruledAt added
+nothing-new S o s k j w v e f =
+    let same : set s (7 * k + 1 + j) (addMarks (heard s k j) w) ≡ s = rw (added-none (heard s k j) w v f) (set-itself s (7 * k + 1 + j)) in
+    rw (same, sym e) (set-itself s (7 * k))
