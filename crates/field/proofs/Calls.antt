@@ -25,7 +25,8 @@ use Rattle.field.specs.Entries.{checkState, checkWord, freshAnswer, soun
 use Rattle.field.proofs.Decide.{within-iff, sound-iff}
 use Rattle.field.proofs.Same.{on-sound, pair-in, outstanding-in}
 use Rattle.field.proofs.Rule.{ruled-same}
-use Rattle.field.proofs.Hear.{others-kept, heard-new, own-new}
+use Rattle.field.proofs.State.{pair-talks, dir-lt-six}
+use Rattle.field.proofs.Hear.{others-kept, heard-new, own-new, nothing-new}
 
 -- a call is granted exactly where each check is passed
 both : (a b : Answer) → (a andThen b ≡ Done) ↔ ((a ≡ Done) × (b ≡ Done))
@@ -100,11 +101,22 @@ itself S o k j w s t a b e = rw (a, b) (own-same, heard-same)
 
 module _ (m : Map) (o : ℕ) (fit : T (inRange (m .sizes))) (o-le : o ≤ 7) (s : List ℕ) (z : SoundOn m o s) where
   -- a word that the speaker holds is granted
+  takes : (k j w : ℕ) → k < nodes (m .sizes) → j < 6 → T (pair m k j) → T (isWord w) → w noMoreThan says (m .sizes) s k j → hearAnswer (m .sizes) o k j w s ≡ Done
+  takes k j w l h t v f =
+      let q : T (pair (mapIn (m .sizes) s) k j) = rw (pair-in m o s z k j) t in
+      hear-passed (m .sizes) o k j w s .1 ((((((((fit, z .long), o-le), l), omega arith), v), on-sound m o s z), q), f)
+
   pub grants : (k j w : ℕ) → k < nodes (m .sizes) → j < 6 → T (pair m k j) → T (isWord w) → w noMoreThan says (m .sizes) s k j
       → hearOut (m .sizes) o k j w s ≡ changed (m .sizes) o k j w s
-  grants k j w l h t v f =
-      let q : T (pair (mapIn (m .sizes) s) k j) = rw (pair-in m o s z k j) t in
-      rw (hear-passed (m .sizes) o k j w s .1 ((((((((fit, z .long), o-le), l), omega arith), v), on-sound m o s z), q), f))
+  grants k j w l h t v f = rw (takes k j w l h t v f)
+
+  -- and changes nothing where it is late
+  pub late : (k j w : ℕ) → T (pair m k j) → T (isWord w) → w noMoreThan heard s k j → (hearAnswer (m .sizes) o k j w s ≡ Done) × (hearOut (m .sizes) o k j w s ≡ s)
+  late k j w t v f =
+      let r = pair-talks m k j t in
+      let (word, held) = z .words k j t in
+      let e = takes k j w (r .lt) (dir-lt-six m k j r) t v λ a x. held a (f a x) in
+      (e, rw e (nothing-new (m .sizes) o s k j w word (z .ruled k (r .lt) (r .works-k)) f))
 
   -- and only such a word
   pub hears : (k j w : ℕ) → (T (pair m k j) × (w noMoreThan says (m .sizes) s k j) × (hearOut (m .sizes) o k j w s ≡ changed (m .sizes) o k j w s))

@@ -1,22 +1,22 @@
 -- A word heard: which bytes change, that marks are only added, and that the state stays sound. Assumes nothing.
-use mathlib.Core.Path.{_≡_, sym, _∙_}
+use mathlib.Core.Path.{_≡_, refl, sym, ap, _∙_}
 use mathlib.Core.Logic.{_↔_, _≢_, _⊎_, inl, inr}
 use mathlib.Core.Bool.{_||_}
-use mathlib.Core.List.{List}
-use Prim.Native.Nat.{ℕ, _+_, _*_, _<_}
+use mathlib.Core.List.{List, [], _∷_}
+use Prim.Native.Nat.{ℕ, zero, suc, _+_, _*_, _<_}
 use native.Mathlib.Omega.{arith}
 use native.Mathlib.Decide.{ℕ-discrete}
 use lib.Dec.{T}
-use lib.ListN.{getD, length, length-set}
+use lib.ListN.{getD, length, set, length-set}
 use lib.Seq.{getD-set-same, getD-set-other}
 use Rattle.mesh.specs.Mesh.{nodes, placeOf}
 use Rattle.mesh.specs.Steps.{neighbour}
 use Rattle.mesh.specs.Cells.{Map, stateLength}
 use Rattle.mesh.specs.Marks.{Kind, has, isWord, ruleByte}
 use Rattle.mesh.specs.declared.Sizes.{Sizes}
-use Rattle.mesh.proofs.Tests.{T-or, T-no}
+use Rattle.mesh.proofs.Tests.{T-or, T-no, bool-ext}
 use Rattle.mesh.proofs.Steps.{dir-led}
-use Rattle.mesh.proofs.Bytes.{has-byte, byte-word}
+use Rattle.mesh.proofs.Bytes.{has-byte, byte-word, word-same}
 use Rattle.field.specs.State.{own, heard, faultyNode, pair, says}
 use Rattle.field.specs.Sound.{_noMoreThan_, SoundOn}
 use Rattle.field.specs.Hear.{addMarks, added, ruledAt, changed}
@@ -141,3 +141,22 @@ module _ (m : Map) (o : ℕ) (s : List ℕ) (z : SoundOn m o s) (l j w : ℕ) (p
       | inr e ↦ rw e (z .words k i t .0, λ a x. own-grows (neighbour S k i) a (z .words k i t .1 a x))
     ];
   }
+
+-- ---- nothing changes where a word has no new mark
+
+set-itself : (s : List ℕ) (i : ℕ) → set s i (getD s i 0) ≡ s
+set-itself [] i = refl
+set-itself (x ∷ s) zero = refl
+set-itself (x ∷ s) (suc i) = ap (λ (t : List ℕ). x ∷ t) (set-itself s i)
+
+added-none : (b w : ℕ) → T (isWord b) → w noMoreThan b → addMarks b w ≡ b
+added-none b w v f = word-same (addMarks b w) b (added-word b w) v λ a. bool-ext (has (addMarks b w) a) (has b a)
+    (λ t. elim (added-marks b w a .0 t) [ inl x ↦ x | inr x ↦ f a x ])
+    (λ t. added-marks b w a .1 (inl t))
+
+pub nothing-new : (S : Sizes) (o : ℕ) (s : List ℕ) (k j w : ℕ) → T (isWord (heard s k j)) → own s k ≡ ruleByte S o (heard s k) → w noMoreThan heard s k j
+    → changed S o k j w s ≡ s
+unfolding changed ruledAt added
+nothing-new S o s k j w v e f =
+    let same : set s (7 * k + 1 + j) (addMarks (heard s k j) w) ≡ s = rw (added-none (heard s k j) w v f) (set-itself s (7 * k + 1 + j)) in
+    rw (same, sym e) (set-itself s (7 * k))

@@ -17,7 +17,7 @@ use Rattle.field.specs.Rounds.{Later}
 use Rattle.field.specs.Promise.{Settled, Promise, FreshPromise}
 use Rattle.field.proofs.Fresh.{fresh-promise}
 use Rattle.field.proofs.Same.{on-state, on-sound, sound-on}
-use Rattle.field.proofs.Calls.{fresh-passed, sound-passed, alone, itself, counts}
+use Rattle.field.proofs.Calls.{fresh-passed, sound-passed, alone, itself, late, counts}
 use Rattle.field.proofs.Later.{Grown, run-grown}
 use Rattle.field.proofs.Exact.{no-more, all-marks}
 use Rattle.field.proofs.Rounds.{rounds-grown, rounds-settle}
@@ -41,6 +41,8 @@ module _ (m : Map) (o : ℕ) (fit : T (inRange (m .sizes))) (o-le : o ≤ 7) whe
         itself = λ k j w t. itself (m .sizes) o k j w s t;
         sound = λ t l. let g = later-grown s t z l in (on-sound m o t (g .sound), on-state m o t (g .sound));
         kept = λ t l k _. later-grown s t z l .owns k;
+        refused = λ t l k j w r e. rw e;
+        late = λ t l. late m o fit o-le t (later-grown s t z l .sound);
         no-more = λ t l. no-more m o t (later-grown s t z l .sound);
         exact = λ t l. counts m o fit o-le t (later-grown s t z l .sound);
         settled = λ t l e. let g = later-grown s t z l in all-marks m o t (g .sound) (quiet t (g .sound) e);

@@ -1,5 +1,6 @@
--- Demand 3: what the talking nodes promise, whatever calls come. `promise` and `fresh-promise` of proofs/ show that they keep it;
--- what is still owed is code that does what Entries.antt says. Assumes nothing.
+-- Demand 3: what the talking nodes promise, whatever calls come: words in any order, late, repeated or refused, and questions between them. The
+-- calls are those of Entries, which the code's contracts name; `promise`, `found-promise` and `made-promise` of proofs/ show that they keep it.
+-- Assumes nothing.
 use mathlib.Core.List.{List}
 use mathlib.Core.Logic.{_≢_}
 use mathlib.Core.Path.{_≡_}
@@ -9,9 +10,10 @@ use lib.ListN.{getD}
 use Rattle.mesh.specs.Tools.{count}
 use Rattle.mesh.specs.Mesh.{nodes, placeOf}
 use Rattle.mesh.specs.Cells.{Map}
-use Rattle.mesh.specs.Marks.{Kind, has, heading, holds, byteOf, stuckWithin, markAt}
+use Rattle.mesh.specs.Marks.{Kind, has, isWord, heading, holds, byteOf, stuckWithin, markAt}
 use Rattle.mesh.specs.declared.Sizes.{Sizes}
-use Rattle.mesh.specs.declared.Answer.the-variants.{Done}
+use Rattle.mesh.specs.declared.Refusal.{Refusal}
+use Rattle.mesh.specs.declared.Answer.the-variants.{Done, Refused}
 use Rattle.mesh.specs.declared.Numbered.the-variants.{Number}
 use Rattle.field.specs.State.{own, heard, SameAt, StateOf, worksNode, pair}
 use Rattle.field.specs.Sound.{_noMoreThan_, Sound, fresh}
@@ -44,9 +46,13 @@ module _ (m : Map) (o : ℕ) where
     -- whatever calls come, the state stays sound, and a state of the map, and no mark is taken away;
     pub sound : (t : List ℕ) → Later S o s t → Sound S o t × StateOf m t
     pub kept : (t : List ℕ) → Later S o s t → (k : ℕ) → k < nodes S → own s k noMoreThan own t k
+    -- a refused call changes nothing, and nor does a word late or repeated, one with no mark that was not heard before: it is granted, no more;
+    pub refused : (t : List ℕ) → Later S o s t → (k j w : ℕ) (r : Refusal) → hearAnswer S o k j w t ≡ Refused r → hearOut S o k j w t ≡ t
+    pub late : (t : List ℕ) → Later S o s t → (k j w : ℕ) → T (pair m k j) → T (isWord w) → w noMoreThan heard t k j
+        → (hearAnswer S o k j w t ≡ Done) × (hearOut S o k j w t ≡ t)
     -- no node holds a mark that the rules do not give it;
     pub no-more : (t : List ℕ) → Later S o s t → (k : ℕ) → k < nodes S → (a : Kind) → T (has (own t k) a) → T (holds m o (placeOf S k) a)
-    -- the number outstanding is exact;
+    -- the number outstanding is exact: the ordered pairs of a working listener and a working neighbour, counted link by link, that have news;
     pub exact : (t : List ℕ) → Later S o s t → outstandingAnswer S o t ≡ Number (outstandingOn m t)
     -- settled, each node's own byte is the mark byte of the rules;
     pub settled : (t : List ℕ) → Later S o s t → Settled t → (k : ℕ) → k < nodes S → own t k ≡ markAt m o (placeOf S k)

@@ -141,10 +141,12 @@ fn check_hear(s: Sizes, o: usize, k: usize, j: usize, word: usize, state: &[u8])
     let Answer::Done = a else {
         return a;
     };
-    if !all_right(s, o, state) {
+    let right = all_right(s, o, state);
+    let paired = pair(s, state, k, j);
+    if !right {
         return Answer::Refused(Refusal::Unsound);
     }
-    if !pair(s, state, k, j) {
+    if !paired {
         return Answer::Refused(Refusal::NoPair);
     }
     if unfit(says(s, state, k, j), word as u8) != 0 {

@@ -27,11 +27,11 @@ in-order c = sym (c .before .before .check-numbers .ensures) ∙ c .enum-told .g
 given : (c : tie.After-enum-told) → let a = c .before .before .before .before .args in Numbers (a .s) (now (a .state)) (a .o) (a .k) (a .j) (a .word)
 given c = let a = c .before .before .before .before .args in numbers (a .s) (now (a .state)) (a .o) (a .k) (a .j) (a .word) (in-order c)
 
-right : (c : tie.Else1) → let a = c .before .before .before .before .before .before .args in sound (a .s) (a .o) (now (a .state)) ≡ true
-right c = sym (c .before .all-right .ensures) ∙ not-false _ (c .if1 .left)
+right : (c : tie.Else1) → let a = c .before .before .before .before .before .before .before .args in sound (a .s) (a .o) (now (a .state)) ≡ true
+right c = sym (c .before .before .all-right .ensures) ∙ not-false _ (c .if1 .left)
 
 paired : (c : tie.Else2) → let a = c .before .before .before .before .before .before .before .before .args in pair (mapIn (a .s) (now (a .state))) (a .k) (a .j) ≡ true
-paired c = sym (c .before .pair .ensures) ∙ not-false _ (c .if2 .left)
+paired c = sym (c .before .before .pair .ensures) ∙ not-false _ (c .if2 .left)
 
 -- what the last test asks
 asks : (c : tie.After-unfit) → let a = c .before .before .before .before .before .before .before .before .before .before .args in
@@ -39,8 +39,8 @@ asks : (c : tie.After-unfit) → let a = c .before .before .before .before .befo
 asks c =
     let y = c .before in
     let p = y .before in
-    let z = p .before .before in
-    let t = z .before .before in
+    let z = p .before in
+    let t = z .before .before .before in
     let a = t .before .before .before .before .args in
     c .unfit .ensures
     ∙ (rw (y .says .ensures) (held-is (a .s) (a .o) (now (a .state)) (sound-iff (a .s) (a .o) (now (a .state)) .0 (holds-true _ .1 (right z))) (a .k) (a .j) (a .word)
@@ -62,18 +62,19 @@ returns c = let e = c .enum-told2 .given .1 in e ∙ (rw (sym (c .before .before
 all-right-requires : tie.Need-all-right-requires
 all-right-requires c κs = let g = given c in (g .whole, g .turned)
 
+pair-requires : tie.Need-pair-requires
+pair-requires c κs = let g = given (c .before) in (g .whole, g .node, g .direction)
+
 returns-2 : tie.Need-returns-2
 unfolding hearAnswer
-returns-2 c = rw (in-order (c .before .before), sym (c .before .all-right .ensures) ∙ not-true _ (c .if1 .taken))
-
-pair-requires : tie.Need-pair-requires
-pair-requires c κs = let g = given (c .before .before) in (g .whole, g .node, g .direction)
+returns-2 c = let r = c .before .before in rw (in-order (r .before), sym (r .all-right .ensures) ∙ not-true _ (c .if1 .taken))
 
 returns-3 : tie.Need-returns-3
 unfolding hearAnswer
 returns-3 c =
-    let z = c .before .before in
-    rw (in-order (z .before .before), right z, sym (c .before .pair .ensures) ∙ not-true _ (c .if2 .taken))
+    let z = c .before in
+    let q = z .before in
+    rw (in-order (q .before .before), right z, sym (q .pair .ensures) ∙ not-true _ (c .if2 .taken))
 
 says-requires : tie.Need-says-requires
 says-requires c κs = let g = given (c .before .before .before .before) in (g .whole, g .node, g .direction)
@@ -91,16 +92,16 @@ unfolding hearAnswer
 returns-4 c =
     let u = c .before in
     let p = u .before .before in
-    let z = p .before .before in
-    rw (in-order (z .before .before), right z, paired p, sym (asks u) ∙ ne-eqb _ _ (c .if3 .taken))
+    let z = p .before in
+    rw (in-order (z .before .before .before), right z, paired p, sym (asks u) ∙ ne-eqb _ _ (c .if3 .taken))
 
 returns-5 : tie.Need-returns-5
 unfolding hearAnswer
 returns-5 c =
     let u = c .before in
     let p = u .before .before in
-    let z = p .before .before in
-    rw (in-order (z .before .before), right z, paired p, sym (asks u) ∙ eq-eqb _ _ (c .if3 .left))
+    let z = p .before in
+    rw (in-order (z .before .before .before), right z, paired p, sym (asks u) ∙ eq-eqb _ _ (c .if3 .left))
 
 pub check-hear-spec : {M : Type 1} → statement M
 check-hear-spec =
@@ -111,8 +112,8 @@ check-hear-spec =
     enum-told-2
     returns
     all-right-requires
-    returns-2
     pair-requires
+    returns-2
     returns-3
     says-requires
     cast-unfit
