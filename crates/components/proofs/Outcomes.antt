@@ -5,7 +5,7 @@ use mathlib.Core.Bool.{Bool, true, false}
 use mathlib.Core.List.{List, [], _∷_, _++_}
 use Prim.Native.Nat.{ℕ, zero, suc, _+_, _-_, _≤_, _<_}
 use native.Mathlib.Omega.{arith}
-use borrow.Author.Tests.{le-leb, lt-leb}
+use borrow.Author.Tests.{le-leb}
 use lib.Dec.{T, ltb, leb, ltb→lt, nltb→le}
 use lib.ListN.{length, getD, take, drop, length-append, length-drop, List·getD-append}
 use lib.Seq.{ext-getD, getD-append-add, getD-drop}
@@ -16,24 +16,25 @@ use Rattle.mesh.specs.Marks.{marksOf}
 use Rattle.mesh.specs.Answers.{granted, numbered, answerValue, _andThen_, checkMap, checkOrientation, checkRoom}
 use Rattle.mesh.specs.declared.Sizes.{Sizes}
 use Rattle.mesh.specs.declared.Refusal.{Refusal}
-use Rattle.mesh.specs.declared.Refusal.the-variants.{NoRoom}
 use Rattle.mesh.specs.declared.Answer.{Answer}
 use Rattle.mesh.specs.declared.Answer.the-variants.{Done, Refused}
+use Rattle.mesh.specs.declared.Numbered.{Numbered}
 use Rattle.mesh.specs.declared.Numbered.the-variants.{Number, NotNumbered}
 use Rattle.mesh.proofs.Tests.{tried}
 use Rattle.mesh.proofs.Tables.{length-table, getD-table}
 use Rattle.mesh.proofs.Numbers.{nodes-le}
-use Rattle.mesh.proofs.Answers.{split, map-granted}
+use Rattle.mesh.proofs.Answers.{split, room-granted, map-granted}
 use Rattle.mesh.proofs.Marks.{marks-length}
 use Rattle.marks.specs.Entry.{marksAnswer}
 use Rattle.components.specs.Components.{tableOf, recordsOf, howMany}
 use Rattle.components.specs.Entry.{componentsCheck, componentsAnswer, componentsTable, componentsRow, tableWritten, rowWritten}
 use Rattle.components.specs.Grid.{gridSize, unseen, spot, gridAt}
 use Rattle.components.specs.Layout.{Copied}
-use Rattle.components.specs.Label.{Labelled}
-use Rattle.components.specs.Outcome.{Computed}
+use Rattle.components.specs.Label.{Untouched, Labelled}
+use Rattle.components.specs.Outcome.{Gridded, roomCheck, Settled, storedOf, Computed}
 use Rattle.components.specs.declared.Component.{Component}
 use Rattle.components.specs.declared.Outcome.{Outcome}
+use Rattle.components.proofs.Spots.{untouched}
 use Rattle.components.proofs.Nodes.{numbers, as-defined}
 
 -- what is written to the front of a list, the rest of which stays
@@ -62,7 +63,7 @@ module _ (S : Sizes) (cells : List ℕ) (o : ℕ) (old : List ℕ) (room : ℕ) 
   sized e = map-granted S cells (split (checkMap S cells) (checkOrientation o) (split (checkMap S cells andThen checkOrientation o) (checkRoom (nodes S) 4096) e .0) .0) .sized
 
   -- a refusal of the marks is one of this call: their room always suffices
-  pub refused-early : (r : Refusal) → marksAnswer S cells o 4096 ≡ Refused r → check ≡ Refused r
+  refused-early : (r : Refusal) → marksAnswer S cells o 4096 ≡ Refused r → check ≡ Refused r
   unfolding marksAnswer componentsCheck
   refused-early r e = go (checkMap S cells) (checkOrientation o) refl e
     where
@@ -82,18 +83,12 @@ module _ (S : Sizes) (cells : List ℕ) (o : ℕ) (old : List ℕ) (room : ℕ) 
         let (a, b) = split (checkMap S cells) (checkOrientation o) (split (checkMap S cells andThen checkOrientation o) (checkRoom (nodes S) 4096) done .0) in
         rw (a, b)
 
-    pub table-short : length old < nodes S → check ≡ Refused NoRoom
-    table-short h = rest ∙ rw (lt-leb (nodes S) (length old) h)
-
-    pub row-short : nodes S ≤ length old → room < howMany S marks → check ≡ Refused NoRoom
-    row-short h k = rest ∙ rw (le-leb (nodes S) (length old) h, lt-leb (howMany S marks) room k)
-
     all-granted : nodes S ≤ length old → howMany S marks ≤ room → check ≡ Done
     all-granted h k = rest ∙ rw (le-leb (nodes S) (length old) h, le-leb (howMany S marks) room k)
 
   -- ---- what is computed
 
-  pub refused-computed : (r : Refusal) → check ≡ Refused r → (x : Outcome) → (x .answer ≡ NotNumbered r) × (x .count ≡ 0) × (length (x .records) ≡ 1024)
+  refused-computed : (r : Refusal) → check ≡ Refused r → (x : Outcome) → (x .answer ≡ NotNumbered r) × (x .count ≡ 0) × (length (x .records) ≡ 1024)
       → Computed S cells o room old old x
   unfolding componentsAnswer
   refused-computed r e x (a, c, l) =
@@ -112,10 +107,10 @@ module _ (S : Sizes) (cells : List ℕ) (o : ℕ) (old : List ℕ) (room : ℕ) 
     found : (n ≡ howMany S marks) × (numbers S (sized done) marks g (marks-length (mapOf S cells) o) is n (omega arith) h row L ≡ tableOf S marks) × (take n row ≡ recordsOf S marks)
     found = as-defined S (sized done) marks g (marks-length (mapOf S cells) o) is n (omega arith) h row L (omega arith)
 
-    pub count-is : n ≡ howMany S marks
+    count-is : n ≡ howMany S marks
     count-is = found .0
 
-    pub granted-computed : nodes S ≤ length old → n ≤ room → (new : List ℕ) → Copied S h old (nodes S) new
+    granted-computed : nodes S ≤ length old → n ≤ room → (new : List ℕ) → Copied S h old (nodes S) new
         → Computed S cells o room old new (record { answer = Number n; count = n; records = row })
     unfolding componentsAnswer tableWritten
     granted-computed fits rows new C =
@@ -135,6 +130,59 @@ module _ (S : Sizes) (cells : List ℕ) (o : ℕ) (old : List ℕ) (room : ℕ) 
 
         low : (k : ℕ) → k < nodes S → getD new k 0 ≡ getD (tableOf S marks) k 0
         low k l = C .done k l ∙ sym (ap (λ (t : List ℕ). getD t k 0) (sym (found .1)) ∙ getD-table at-spot (nodes S) k 0 l)
+
+-- ---- the room, when the components have been counted
+
+pub settled-refused : (S : Sizes) (checked : Answer) (g : List ℕ) (count room : ℕ) (old : List ℕ) (r : Refusal)
+    → roomCheck S checked count (length old) room ≡ Refused r → Settled S checked g count room old old (NotNumbered r)
+settled-refused S checked g count room old r e =
+    record {
+      answer = rw e;
+      copied = λ d. let z : _≡_ {A = ℕ} 0 1 = cc (e, d) in absurd (omega arith);
+      kept = λ x q. refl;
+    }
+
+pub settled-granted : (S : Sizes) (checked : Answer) (g : List ℕ) (count room : ℕ) (old new : List ℕ)
+    → roomCheck S checked count (length old) room ≡ Done → Copied S g old (nodes S) new → Settled S checked g count room old new (Number count)
+settled-granted S checked g count room old new e C =
+    record {
+      answer = rw e;
+      copied = λ d. C;
+      kept = λ x q. let z : _≡_ {A = ℕ} 0 1 = cc (e, q) in absurd (omega arith);
+    }
+
+module _ (S : Sizes) (cells : List ℕ) (o : ℕ) where
+  -- an empty grid holds nothing that could be numbered
+  pub laid-untouched : (a : Answer) → marksAnswer S cells o 4096 ≡ a → (g : List ℕ) → Gridded S cells o a g → Untouched g
+  laid-untouched Done done g is = untouched S (sized S cells o [] 0 done) (marksOf (mapOf S cells) o) g (marks-length (mapOf S cells) o) is
+  laid-untouched (Refused x) e g is = λ j. inl (is j)
+
+  pub all-computed : (room : ℕ) (old new : List ℕ) (a : Answer) → marksAnswer S cells o 4096 ≡ a → (g h : List ℕ) (n : ℕ) (row : List Component)
+      → Gridded S cells o a g → Labelled g gridSize n h row → length row ≡ 1024 → n ≤ 1024
+      → (r : Numbered) (k : ℕ) → Settled S a h n room old new r → k ≡ storedOf r → Computed S cells o room old new (record { answer = r; count = k; records = row })
+  all-computed room old new (Refused x) e g h n row is L long few r k T stored =
+      let q : r ≡ NotNumbered x = T .answer in
+      let u : new ≡ old = T .kept x refl in
+      rw u (refused-computed S cells o old room x (refused-early S cells o old room x e) (record { answer = r; count = k; records = row })
+      (q, stored ∙ ap storedOf q, long))
+  all-computed room old new Done done g h n row is L long few r k T stored = go (roomCheck S Done n (length old) room) refl
+    where
+      counted : n ≡ howMany S (marksOf (mapOf S cells) o)
+      counted = count-is S cells o old room done g h n row is L long few
+
+      same : componentsCheck S cells o (length old) room ≡ roomCheck S Done n (length old) room
+      same = rest S cells o old room done ∙ ap (λ (k : ℕ). checkRoom (nodes S) (length old) andThen checkRoom k room) (sym counted)
+
+      go : (b : Answer) → roomCheck S Done n (length old) room ≡ b → Computed S cells o room old new (record { answer = r; count = k; records = row })
+      go (Refused x) e =
+          let q : r ≡ NotNumbered x = T .answer ∙ ap (λ (a : Answer). numbered a n) e in
+          rw (T .kept x e) (refused-computed S cells o old room x (same ∙ e) (record { answer = r; count = k; records = row })
+          (q, stored ∙ ap storedOf q, long))
+      go Done e =
+          let q : r ≡ Number n = T .answer ∙ ap (λ (a : Answer). numbered a n) e in
+          let c : k ≡ n = stored ∙ ap storedOf q in
+          let (fits, rows) = split (checkRoom (nodes S) (length old)) (checkRoom n room) e in
+          rw (q, c) (granted-computed S cells o old room done g h n row is L long few (room-granted (nodes S) (length old) fits) (room-granted n room rows) new (T .copied e))
 
 -- ---- with the records stored, the whole call's table and row
 

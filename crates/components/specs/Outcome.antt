@@ -3,20 +3,40 @@ use mathlib.Core.List.{List, []}
 use mathlib.Core.Path.{_≡_}
 use Prim.Native.Nat.{ℕ, _≤_}
 use lib.ListN.{length, take, getD}
+use Rattle.mesh.specs.Mesh.{nodes}
 use Rattle.mesh.specs.Cells.{mapOf}
 use Rattle.mesh.specs.Marks.{marksOf}
-use Rattle.mesh.specs.Answers.{granted, answerValue}
+use Rattle.mesh.specs.Answers.{granted, numbered, answerValue, _andThen_, checkRoom}
 use Rattle.mesh.specs.declared.Sizes.{Sizes}
 use Rattle.mesh.specs.declared.Answer.{Answer}
-use Rattle.mesh.specs.declared.Answer.the-variants.{Done}
+use Rattle.mesh.specs.declared.Answer.the-variants.{Done, Refused}
+use Rattle.mesh.specs.declared.Refusal.{Refusal}
+use Rattle.mesh.specs.declared.Numbered.{Numbered}
+use Rattle.mesh.specs.declared.Numbered.the-variants.{Number, NotNumbered}
 use Rattle.components.specs.Components.{recordsOf, howMany}
 use Rattle.components.specs.Entry.{componentsCheck, componentsAnswer, tableWritten}
 use Rattle.components.specs.Grid.{gridAt}
+use Rattle.components.specs.Layout.{Copied}
 use Rattle.components.specs.declared.Outcome.{Outcome}
 
--- a granted map's grid; on a refusal nothing is said of it
+-- a granted map's grid; on a refusal it is empty
 abbrev pub Gridded : Sizes → List ℕ → ℕ → Answer → List ℕ → Type 0
-Gridded S cells o a g = a ≡ Done → (j : ℕ) → getD g j 0 ≡ gridAt S (marksOf (mapOf S cells) o) j
+Gridded S cells o a g = (j : ℕ) → getD g j 0 ≡ answerValue a (gridAt S (marksOf (mapOf S cells) o) j)
+
+-- the checks that are left when the components have been counted: "3 an output lent is shorter than what is to be written"
+abbrev pub roomCheck : Sizes → Answer → ℕ → ℕ → ℕ → Answer
+roomCheck S checked count tableRoom rowRoom = checked andThen checkRoom (nodes S) tableRoom andThen checkRoom count rowRoom
+
+-- the answer, and the table: the grid's numbers, or as it was on a refusal
+pub record Settled (S : Sizes) (checked : Answer) (g : List ℕ) (count room : ℕ) (old new : List ℕ) (r : Numbered) : Type 0 where
+  pub answer : r ≡ numbered (roomCheck S checked count (length old) room) count
+  pub copied : roomCheck S checked count (length old) room ≡ Done → Copied S g old (nodes S) new
+  pub kept : (x : Refusal) → roomCheck S checked count (length old) room ≡ Refused x → new ≡ old
+
+-- how many records are stored: none on a refusal
+abbrev pub storedOf : Numbered → ℕ
+storedOf (Number n) = n
+storedOf (NotNumbered r) = 0
 
 -- the answer, the table, and as many records as there are to store: none on a refusal
 pub record Computed (S : Sizes) (cells : List ℕ) (o room : ℕ) (old new : List ℕ) (r : Outcome) : Type 0 where

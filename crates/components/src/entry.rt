@@ -2,8 +2,6 @@
 use crate::Outcome;
 use crate::grid::copy_out;
 use crate::grid::lay;
-use crate::labelling::blank_queue;
-use crate::labelling::blank_records;
 use crate::labelling::label;
 use marks::entry::marks;
 use mesh::Answer;
@@ -13,10 +11,11 @@ use mesh::Sizes;
 ghost use mathlib.Core.Path.{_≡_};
 ghost use Prim.Native.Nat.{ℕ};
 ghost use lib.ListN.{length, getD};
-ghost use Rattle.mesh.specs.declared.Numbered.the-variants.{NotNumbered};
+ghost use Rattle.mesh.specs.Mesh.{InRange};
+ghost use Rattle.mesh.specs.declared.Answer.the-variants.{Done};
 ghost use Rattle.marks.specs.Entry.{marksAnswer};
 ghost use Rattle.components.specs.Grid.{gridSize};
-ghost use Rattle.components.specs.Outcome.{Gridded, Computed};
+ghost use Rattle.components.specs.Outcome.{Gridded, Settled, storedOf, Computed};
 
 fn blank_marks() -> [u8; 4096]
     ensures { λ r. ⌜ length r ≡ 4096 ⌝ }
@@ -30,7 +29,7 @@ fn blank_grid() -> [u16; 5220]
     [0; 5220]
 }
 
-// The grid of a map, in an empty one: refusals 1, 2, 4 and 5.
+// The grid of a map, in an empty one: refusals 1, 2, 4 and 5. On a refusal it stays empty.
 fn grid_of(s: Sizes, cells: &[u8], orientation: usize, grid: &mut [u16]) -> Answer
     requires { ⌜ (length (now grid) ≡ gridSize) × ((j : ℕ) → getD (now grid) j 0 ≡ 0) ⌝ }
     ensures { λ r. ⌜ (r ≡ marksAnswer s (now (cells .entry)) orientation 4096) × Gridded s (now (cells .entry)) orientation r (now (grid .exit)) ⌝ }
@@ -45,18 +44,43 @@ fn grid_of(s: Sizes, cells: &[u8], orientation: usize, grid: &mut [u16]) -> Answ
     a
 }
 
-fn refused(r: Refusal) -> Outcome
-    ensures { λ o. ⌜ (o .answer ≡ NotNumbered r) × (o .count ≡ 0) × (length (o .records) ≡ 1024) ⌝ }
+// The table, if the map is in order and there is room for it and for as many records as there are: refusal 3.
+fn settle(
+    s: Sizes,
+    checked: Answer,
+    grid: &[u16],
+    table: &mut [u16],
+    count: usize,
+    room: usize,
+) -> Numbered
+    requires { ⌜ (checked ≡ Done → InRange s) × (length (now grid) ≡ gridSize) ⌝ }
+    ensures { λ r. ⌜ Settled s checked (now (grid .entry)) count room (now (table .entry)) (now (table .exit)) r ⌝ }
 {
-    let records = blank_records();
-    Outcome {
-        answer: Numbered::NotNumbered(r),
-        count: 0,
-        records,
+    if let Answer::Refused(r) = checked {
+        return Numbered::NotNumbered(r);
+    }
+    if table.len() < s.nodes() {
+        return Numbered::NotNumbered(Refusal::NoRoom);
+    }
+    if room < count {
+        return Numbered::NotNumbered(Refusal::NoRoom);
+    }
+    copy_out(s, grid, table);
+    Numbered::Number(count)
+}
+
+// How many records are to be stored.
+fn stored(answer: Numbered) -> usize
+    ensures { λ r. ⌜ r ≡ storedOf answer ⌝ }
+{
+    match answer {
+        Numbered::Number(n) => n,
+        Numbered::NotNumbered(r) => 0,
     }
 }
 
-// All of the call but the records' storing: refusals 1, 2, 4, 5 and 3, and the table.
+// All of the call but the records' storing: refusals 1, 2, 4, 5 and 3, and the table. There is one way through: where the map is refused, an empty
+// grid is looked through, so that the records lie at one place and need not be copied there.
 pub fn compute(
     s: Sizes,
     cells: &[u8],
@@ -68,21 +92,12 @@ pub fn compute(
 {
     let mut grid = blank_grid();
     let a = grid_of(s, cells, orientation, &mut grid);
-    if let Answer::Refused(r) = a {
-        return refused(r);
-    }
-    if table.len() < s.nodes() {
-        return refused(Refusal::NoRoom);
-    }
     let found = label(&mut grid);
-    let count = found.count;
-    if room < count {
-        return refused(Refusal::NoRoom);
-    }
-    copy_out(s, &grid, table);
+    let answer = settle(s, a, &grid, table, found.count, room);
+    let count = stored(answer);
     let records = found.records;
     Outcome {
-        answer: Numbered::Number(count),
+        answer,
         count,
         records,
     }

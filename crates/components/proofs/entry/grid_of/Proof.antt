@@ -49,7 +49,7 @@ answered c =
 returns : tie.Need-returns
 returns c =
     let told = c .enum-told2 .given .1 in
-    (answered (c .before .before .before), λ done. let z : _≡_ {A = ℕ} 0 1 = cc (told, done) in absurd (omega arith))
+    (answered (c .before .before .before), λ j. rw told (c .before .before .before .before .before .before .before .before .pre .1 j))
 
 -- past the refusals
 passed : (c : tie.After-enum-told) → let a = c .before .before .before .before .before .before .before .before .args in Granted (a .s) (now (a .cells)) (a .orientation) 4096
@@ -100,7 +100,8 @@ returns-2 : tie.Need-returns-2
 returns-2 c =
     let d = c .before .before .before .before .before in
     let a = d .before .before .before .before .before .before .before .before .before .args in
-    (answered (d .before .before .before .before), λ _ j. c .before .before .lay .ensures j ∙ ap (λ (l : List ℕ). gridAt (a .s) l j) (laid d))
+    let told = d .before .enum-told .given .1 in
+    (answered (d .before .before .before .before), λ j. rw told (c .before .before .lay .ensures j ∙ ap (λ (l : List ℕ). gridAt (a .s) l j) (laid d)))
 
 pub grid-of-spec : {M : Type 1} → statement M
 grid-of-spec =
