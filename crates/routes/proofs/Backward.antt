@@ -1,24 +1,23 @@
 -- What is seen from the end of a route, on the way to its start: the nodes from which a path to the end goes on (`from-end`). So the
 -- bytes of the sweep tell whether the start has a path, and which directions a node of the box is offered. Assumes nothing.
 use mathlib.Core.Path.{_≡_, refl, sym, ap, _∙_, subst}
-use mathlib.Core.Logic.{_⊎_, inl, inr}
+use mathlib.Core.Logic.{inl, inr}
 use mathlib.Core.Bool.{Bool, true, false, cond, not, _&&_, _||_}
-use Prim.Native.Nat.{ℕ, _+_, _-_, _<_, _≤_}
+use Prim.Native.Nat.{ℕ, _-_, _<_, _≤_}
 use native.Mathlib.Omega.{arith}
 use lib.Dec.{T, ltb, ltb→lt, lt→ltb}
-use borrow.Author.Tests.{lt-ltb}
 use Rattle.mesh.specs.Tools.{any}
-use Rattle.mesh.specs.Mesh.{Axis, X, Y, Z, on, place, Inside}
-use Rattle.mesh.specs.Steps.{next, along, isAt}
+use Rattle.mesh.specs.Mesh.{Axis, X, Y, Z, on, Inside}
+use Rattle.mesh.specs.Steps.{next, along}
 use Rattle.mesh.specs.Cells.{Map, cellAt, mayPass, mayEnd, linked}
-use Rattle.mesh.proofs.Tests.{T-and, T-or, T-any, tried, bool-ext, cond-true, cond-false, holds-true}
+use Rattle.mesh.proofs.Tests.{T-and, T-or, T-any, bool-ext, holds-true}
 use Rattle.mesh.proofs.Steps.{dir-of, dir-lt, led, put}
 use Rattle.mesh.specs.declared.Place.{Place}
 use Rattle.mesh.specs.declared.Next.the-variants.{At}
 use Rattle.routes.specs.Differences.{preferred, same}
 use Rattle.routes.specs.Paths.{mayEnter, begins, leads}
 use Rattle.routes.specs.Offered.{offers}
-use Rattle.routes.specs.Box.{between, reach, far, Within}
+use Rattle.routes.specs.Box.{between, reach, Within}
 use Rattle.routes.specs.Sweep.{entry, Seen}
 use Rattle.routes.proofs.Box.{held, reach-in}
 use Rattle.routes.proofs.Runs.{runOn, origin, within-on, within-put, reach-first, reach-eq, lies-back, lies-back-not, put-back}

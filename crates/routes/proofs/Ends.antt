@@ -1,27 +1,25 @@
 -- The checks of the ends of a route, one after another, and what they grant; and the answers that follow. Assumes nothing.
-use mathlib.Core.Path.{_≡_, refl, sym, ap, _∙_, subst}
-use mathlib.Core.Bool.{Bool, true, false}
+use mathlib.Core.Path.{_≡_}
+use mathlib.Core.Bool.{true, false}
 use mathlib.Core.List.{List}
-use Prim.Native.Nat.{ℕ, _<_}
+use Prim.Native.Nat.{ℕ}
 use lib.ListN.{getD}
-use lib.Dec.{T, ltb}
-use Rattle.mesh.specs.Mesh.{nodes, number, placeOf}
+use lib.Dec.{ltb}
+use Rattle.mesh.specs.Mesh.{nodes, placeOf}
 use Rattle.mesh.specs.Cells.{Map, mapOf, cellAt, mayEnd}
-use Rattle.mesh.specs.Answers.{_andThen_, unless, checkMap, checkNode}
+use Rattle.mesh.specs.Answers.{_andThen_, checkMap, checkNode}
 use Rattle.mesh.proofs.Tests.{holds-true}
 use Rattle.mesh.proofs.Numbers.{number-of, place-in}
 use Rattle.mesh.proofs.Answers.{split, ok-of, node-granted, map-granted}
 use Rattle.mesh.specs.declared.Sizes.{Sizes}
 use Rattle.mesh.specs.declared.Refusal.{Refusal}
 use Rattle.mesh.specs.declared.Refusal.the-variants.{BadNumber, FaultyEnd, NoPath}
-use Rattle.mesh.specs.declared.Answer.{Answer}
 use Rattle.mesh.specs.declared.Answer.the-variants.{Done, Refused}
 use Rattle.routes.specs.Differences.{hops}
 use Rattle.routes.specs.Paths.{leads}
 use Rattle.routes.specs.Offered.{offered}
 use Rattle.routes.specs.Entries.{checkEnd, checkEnds, verdictCheck, verdictAnswer}
 use Rattle.routes.specs.Sweep.{Ends}
-use Rattle.routes.specs.declared.Verdict.{Verdict}
 use Rattle.routes.specs.declared.Verdict.the-variants.{Granted, NotGranted}
 
 module _ (S : Sizes) (cells : List ℕ) (s e : ℕ) where

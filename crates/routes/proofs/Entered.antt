@@ -1,12 +1,12 @@
 -- The ways into a node, read from the bytes of a sweep: on each axis, whether the node one step nearer is seen. Assumes nothing.
-use mathlib.Core.Path.{_≡_, refl, sym, ap, _∙_}
+use mathlib.Core.Path.{_≡_, refl, ap, _∙_}
 use mathlib.Core.Bool.{Bool, true, false, cond, _&&_}
 use mathlib.Core.List.{List}
 use Prim.Native.Nat.{ℕ, zero, suc, _+_, _-_, _*_, _<_, _≤_}
 use native.Mathlib.Numerals.{add-one}
 use native.Mathlib.Omega.{arith}
 use lib.ListN.{getD, getD-replicate}
-use lib.Dec.{T, ltb, eqb}
+use lib.Dec.{ltb, eqb}
 use borrow.Author.Tests.{ltb-true, ne-eqb}
 use Rattle.mesh.specs.Tools.{bit}
 use Rattle.mesh.specs.Mesh.{place, Inside}

@@ -1,7 +1,7 @@
 -- The table of a route: every layer that is kept stays, the ways read from it are the ways of what is seen, and the way through it stays
 -- in the box. Assumes nothing.
-use mathlib.Core.Path.{_≡_, refl, sym, ap, _∙_, subst}
-use mathlib.Core.Logic.{_⊎_, inl, inr}
+use mathlib.Core.Path.{_≡_, refl, sym, ap, _∙_}
+use mathlib.Core.Logic.{inl, inr}
 use mathlib.Core.Bool.{Bool, true, false, cond, _&&_}
 use mathlib.Core.List.{List}
 use Prim.Native.Nat.{ℕ, zero, suc, _+_, _-_, _*_, _<_, _≤_}
@@ -18,7 +18,7 @@ use Rattle.mesh.specs.Fill.{Filled}
 use Rattle.mesh.specs.declared.Place.{Place}
 use Rattle.routes.specs.Box.{largest, far, Within}
 use Rattle.routes.specs.Sweep.{Seen, Holds, prior, entered, waysOf}
-use Rattle.routes.specs.Table.{slot, Kept, waysIn, towards, nearest, trail}
+use Rattle.routes.specs.Table.{slot, Kept, waysIn, towards, trail}
 use Rattle.routes.proofs.Entered.{entered-is}
 use Rattle.routes.specs.declared.Ways.{Ways}
 use Rattle.routes.specs.declared.Between.{Between}

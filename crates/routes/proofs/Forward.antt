@@ -1,21 +1,21 @@
 -- What is seen from the start of a route, on the way to its end: the nodes that preferred steps lead to (`from-start`). Such steps never
 -- leave the box between the two, so no other node is reached (`boxed`). Assumes nothing.
 use mathlib.Core.Path.{_≡_, refl, sym, ap, _∙_, subst}
-use mathlib.Core.Logic.{_↔_, _⊎_, inl, inr}
-use mathlib.Core.Bool.{Bool, true, false, cond, not, _&&_, _||_}
+use mathlib.Core.Logic.{_↔_, inl, inr}
+use mathlib.Core.Bool.{Bool, true, false, not, _&&_, _||_}
 use mathlib.Core.List.{List}
 use Prim.Native.Nat.{ℕ, _+_, _-_, _<_, _≤_}
 use native.Mathlib.Omega.{arith}
 use lib.Dec.{T, ltb, ltb→lt, lt→ltb}
-use Rattle.mesh.specs.Mesh.{Axis, X, Y, Z, on, place, Inside}
+use Rattle.mesh.specs.Mesh.{Axis, X, Y, Z, on, Inside}
 use Rattle.mesh.specs.Steps.{next, along}
-use Rattle.mesh.specs.Cells.{Map, cellAt, mayPass, mayEnd, linked}
+use Rattle.mesh.specs.Cells.{Map, cellAt, mayPass, mayEnd}
 use Rattle.mesh.proofs.Tests.{T-and, T-or, tried, bool-ext, cond-true, cond-false, holds-true}
 use Rattle.mesh.proofs.Steps.{led, put}
 use Rattle.mesh.specs.declared.Place.{Place}
 use Rattle.mesh.specs.declared.Next.the-variants.{At}
 use Rattle.routes.specs.Differences.{preferred, same}
-use Rattle.routes.specs.Paths.{mayEnter, mayHop, Leads, stay, hop, leads}
+use Rattle.routes.specs.Paths.{mayEnter, Leads, stay, hop, leads}
 use Rattle.routes.specs.Box.{between, reach, far, Within}
 use Rattle.routes.specs.Sweep.{entry, Seen}
 use Rattle.routes.proofs.Box.{held, reach-in}

@@ -1,10 +1,10 @@
 -- The outcomes of a call for a route: what is answered, and what is left in the lent numbers. Assumes nothing.
-use mathlib.Core.Path.{_≡_, refl, sym, ap, _∙_, subst}
+use mathlib.Core.Path.{_≡_, refl, sym, _∙_}
 use mathlib.Core.Bool.{true, false}
 use mathlib.Core.List.{List, _++_}
 use Prim.Native.Nat.{ℕ, _+_, _<_, _≤_}
 use native.Mathlib.Omega.{arith}
-use lib.ListN.{length, getD, drop}
+use lib.ListN.{length, drop}
 use lib.Dec.{T}
 use borrow.Author.Tests.{le-leb, lt-leb}
 use Rattle.mesh.specs.Mesh.{number, placeOf, Inside}
@@ -26,7 +26,6 @@ use Rattle.routes.specs.Box.{largest, between, reach, far}
 use Rattle.routes.specs.Table.{Kept, trail, Routed}
 use Rattle.routes.proofs.Offered.{route-length}
 use Rattle.routes.proofs.Trails.{route-trail}
-use Rattle.routes.specs.declared.Between.{Between}
 
 module _ (m : Map) (p e : Place) (old : List ℕ) where
   pub routed-10 : leads m e p e ≡ false → Routed m p e old (NotNumbered NoPath) old

@@ -1,12 +1,11 @@
 -- A run from one coordinate to another, step by step: its first end lies back as long as a step was taken, its last end onward as long as
 -- one is left; and the same of a box, on each axis. Assumes nothing.
-use mathlib.Core.Path.{_≡_, refl, sym, ap, _∙_, subst}
-use mathlib.Core.Logic.{_⊎_, inl, inr}
+use mathlib.Core.Path.{_≡_, refl, ap}
 use mathlib.Core.Bool.{Bool, true, false, cond, not}
 use Prim.Native.Nat.{ℕ, _+_, _-_, _<_, _≤_}
 use native.Mathlib.Omega.{arith}
 use lib.IntN.{natAbs, subℕ}
-use lib.Dec.{T, ltb, ltb→lt, lt→ltb}
+use lib.Dec.{ltb, ltb→lt, lt→ltb}
 use borrow.Author.Tests.{ltb-true, ltb-false, le-ltb}
 use Rattle.mesh.specs.Mesh.{Axis, X, Y, Z, on, place}
 use Rattle.mesh.proofs.Tests.{bool-ext}

@@ -1,5 +1,5 @@
 -- What is written for `reached`: the bytes of the definition, and after them what was there. Assumes nothing.
-use mathlib.Core.Path.{_≡_, refl, sym, ap, _∙_, subst}
+use mathlib.Core.Path.{_≡_, refl, sym, ap, _∙_}
 use mathlib.Core.Bool.{Bool, true, false, not, _||_}
 use mathlib.Core.List.{List, _++_}
 use Prim.Native.Nat.{ℕ, _+_, _<_, _≤_}
@@ -14,7 +14,6 @@ use Rattle.mesh.specs.Cells.{Map, mapOf, cellAt, mayEnd}
 use Rattle.mesh.specs.Fill.{Filled}
 use Rattle.mesh.proofs.Bits.{bit-le}
 use Rattle.mesh.proofs.Fill.{front}
-use Rattle.mesh.proofs.Tests.{holds-true}
 use Rattle.mesh.proofs.Tables.{sum-same}
 use Rattle.mesh.proofs.Numbers.{number-lt, number-of, place-of, place-in}
 use Rattle.mesh.specs.declared.Sizes.{Sizes}
@@ -22,7 +21,6 @@ use Rattle.mesh.specs.declared.Place.{Place}
 use Rattle.mesh.specs.declared.Refusal.{Refusal}
 use Rattle.mesh.specs.declared.Refusal.the-variants.{NoRoom}
 use Rattle.mesh.specs.declared.Answer.the-variants.{Done, Refused}
-use Rattle.mesh.specs.declared.Numbered.{Numbered}
 use Rattle.mesh.specs.declared.Numbered.the-variants.{Number, NotNumbered}
 use Rattle.routes.specs.Differences.{hops}
 use Rattle.routes.specs.Paths.{leads}
@@ -33,7 +31,7 @@ use Rattle.routes.specs.Sweep.{entry, waysOf}
 use Rattle.routes.specs.Shown.{Shown, Bits}
 use Rattle.routes.proofs.Differences.{hops-is}
 use Rattle.routes.proofs.Box.{held, reach-in}
-use Rattle.routes.proofs.Runs.{origin, reach-far}
+use Rattle.routes.proofs.Runs.{reach-far}
 use Rattle.routes.proofs.Reached.{reached-length, reached-byte}
 use Rattle.routes.proofs.Forward.{behind, boxed, behind-is, from-start, end-entry}
 use Rattle.routes.proofs.Trails.{summed, far-zero}

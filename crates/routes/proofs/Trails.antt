@@ -2,32 +2,30 @@
 use mathlib.Core.Path.{_≡_, refl, sym, ap, _∙_, subst}
 use mathlib.Core.Logic.{inl, inr}
 use mathlib.Core.Bool.{Bool, true, false, cond, not, _&&_, _||_}
-use mathlib.Core.List.{List, _∷_}
-use Prim.Native.Nat.{ℕ, zero, suc, _+_, _-_, _*_, _<_, _≤_}
+use mathlib.Core.List.{List}
+use Prim.Native.Nat.{ℕ, zero, suc, _+_, _-_, _<_, _≤_}
 use native.Mathlib.Nat.{eq-or-lt-of-le}
 use native.Mathlib.Omega.{arith}
 use lib.ListN.{getD}
 use lib.Dec.{T, ltb, eqb, ltb→lt}
-use Rattle.mesh.specs.Tools.{bit, one}
+use Rattle.mesh.specs.Tools.{bit}
 use Rattle.mesh.specs.Mesh.{Axis, X, Y, Z, on, place, number, Inside}
 use Rattle.mesh.specs.Steps.{next, along}
 use Rattle.mesh.specs.Cells.{Map, cellAt, mayEnd}
-use Rattle.mesh.proofs.Tests.{T-and, T-or, T-eq, bool-ext, holds-true}
+use Rattle.mesh.proofs.Tests.{T-and, T-or, T-eq, bool-ext}
 use Rattle.mesh.proofs.Bits.{bit-one}
 use Rattle.mesh.proofs.Steps.{put, dir-lt, next-in}
 use Rattle.mesh.specs.declared.Place.{Place}
-use Rattle.mesh.specs.declared.Next.{Next}
 use Rattle.mesh.specs.declared.Next.the-variants.{At}
 use Rattle.routes.specs.Differences.{hops, same}
 use Rattle.routes.specs.Paths.{leads}
-use Rattle.routes.specs.Offered.{offers, lowest, onward, routeWithin, route}
+use Rattle.routes.specs.Offered.{offers, lowest, routeWithin, route}
 use Rattle.routes.specs.Box.{largest, between, reach, far, Within}
 use Rattle.routes.specs.Sweep.{entry, waysOf}
 use Rattle.routes.specs.Table.{Kept, waysIn, towards, nearest, trail}
 use Rattle.routes.proofs.Differences.{hops-zero, hops-is, same-iff, size-is, place-eq}
 use Rattle.routes.proofs.Paths.{leads-iff, hop-lowers}
-use Rattle.routes.proofs.Offered.{Least, lowest-is, least-same, offers-iff}
-use Rattle.routes.proofs.Box.{held}
+use Rattle.routes.proofs.Offered.{lowest-is, least-same, offers-iff}
 use Rattle.routes.proofs.Runs.{runOn, origin, reach-first, reach-far}
 use Rattle.routes.proofs.Backward.{ahead, node-in, step-back, from-end, leads-entry, offers-back, offers-on}
 use Rattle.routes.proofs.Following.{towards-within, ways-are}

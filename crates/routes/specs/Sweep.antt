@@ -1,7 +1,7 @@
 -- The sweep over a box, layer by layer from its first corner: what the functions of src/ leave in their bytes. No promise is stated in these
 -- words: what the bytes mean for paths is proved (proofs/Swept). Assumes nothing.
 use mathlib.Core.Path.{_≡_}
-use mathlib.Core.Bool.{Bool, true, false, cond, _&&_, _||_}
+use mathlib.Core.Bool.{Bool, true, cond, _&&_, _||_}
 use mathlib.Core.List.{List, _∷_}
 use Prim.Native.Nat.{ℕ, zero, suc, _+_, _-_, _*_, _^_, _<_, _≤_}
 use lib.ListN.{length, getD, replicate}

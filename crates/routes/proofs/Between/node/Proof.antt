@@ -1,5 +1,4 @@
 -- `routes::Between::node` meets its contract: a box that is held stays in the mesh. Assumes nothing.
-use mathlib.Core.Path.{_≡_, refl}
 use native.Mathlib.Omega.{arith}
 use Rattle.mesh.specs.Mesh.{place}
 use Rattle.routes.proofs.Box.{widen, reach-in}

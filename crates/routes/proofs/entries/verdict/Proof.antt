@@ -1,11 +1,10 @@
 -- `routes::entries::verdict` meets its contract: a start that is not the end has a path exactly if something is offered. Assumes nothing.
-use mathlib.Core.Path.{_≡_, refl, _∙_, sym, ap, subst}
-use mathlib.Core.Bool.{Bool, true, false}
-use Prim.Native.Nat.{ℕ, _<_}
+use mathlib.Core.Path.{_≡_, _∙_, sym, subst}
+use mathlib.Core.Bool.{true, false}
+use Prim.Native.Nat.{_<_}
 use native.Mathlib.Omega.{arith}
 use borrow.Author.Needs.{needs}
 use denote.Ref.{now}
-use lib.Dec.{T}
 use Rattle.mesh.specs.Mesh.{placeOf, Inside}
 use Rattle.mesh.specs.Cells.{Map, mapOf}
 use Rattle.mesh.proofs.Tests.{bool-ext, holds-true}

@@ -1,9 +1,9 @@
 -- `routes::follow::write_route` meets its contract: the table is that of the box from the end, and the way through it is the route.
 -- Assumes nothing.
-use mathlib.Core.Path.{_≡_, refl, sym, ap, _∙_, subst}
-use mathlib.Core.Bool.{Bool, true, false, not, _||_}
+use mathlib.Core.Path.{_≡_, sym, ap, _∙_, subst}
+use mathlib.Core.Bool.{Bool, not, _||_}
 use mathlib.Core.List.{List}
-use Prim.Native.Nat.{ℕ, _+_, _-_, _<_, _≤_}
+use Prim.Native.Nat.{ℕ, _+_, _-_, _≤_}
 use native.Mathlib.Omega.{arith}
 use borrow.Author.Needs.{needs}
 use borrow.Author.Tests.{not-true, not-false}
@@ -16,11 +16,10 @@ use Rattle.mesh.specs.Fill.{Filled}
 use Rattle.mesh.proofs.Tests.{holds-true}
 use Rattle.mesh.specs.declared.Sizes.{Sizes}
 use Rattle.mesh.specs.declared.Place.{Place}
-use Rattle.mesh.specs.declared.Numbered.the-variants.{Number}
 use Rattle.routes.specs.Differences.{hops}
 use Rattle.routes.specs.Paths.{leads}
 use Rattle.routes.specs.Box.{largest, between, reach, far, Within}
-use Rattle.routes.specs.Sweep.{Ready, waysOf}
+use Rattle.routes.specs.Sweep.{Ready}
 use Rattle.routes.specs.Table.{Kept, waysIn, trail}
 use Rattle.routes.proofs.Box.{held, far-in}
 use Rattle.routes.proofs.Entered.{ways-le}

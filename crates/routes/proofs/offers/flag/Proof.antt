@@ -1,5 +1,5 @@
 -- `routes::offers::flag` meets its contract: a direction is at most 5, so no bit is lost. Assumes nothing.
-use mathlib.Core.Path.{_≡_, refl, sym, ap, _∙_}
+use mathlib.Core.Path.{_≡_, sym, ap, _∙_}
 use Prim.Native.Nat.{ℕ, zero, suc, _+_, _*_, _%_, _^_, _<_, _≤_}
 use native.Mathlib.Omega.{arith}
 use borrow.Author.Needs.{needs}
@@ -8,7 +8,7 @@ use Rattle.mesh.proofs.Whole.{back}
 use Rattle.routes.specs.Differences.{wanted}
 use Rattle.routes.specs.Sweep.{flagOf}
 use Rattle.routes.specs.declared.Wanted.{Wanted}
-use Rattle.routes.specs.declared.Wanted.the-variants.{Way, Level}
+use Rattle.routes.specs.declared.Wanted.the-variants.{Way}
 use Rattle.routes.proofs.offers.flag.Statement.{statement}
 use Rattle.routes.proofs.offers.flag.Tie as tie
 

@@ -1,14 +1,11 @@
 -- `routes::offers::ways` meets its contract: the layers before the last, then the last (`layer-ways`). Assumes nothing.
-use mathlib.Core.Path.{_≡_, refl, _∙_, ap, subst}
-use mathlib.Core.List.{List}
-use Prim.Native.Nat.{ℕ, _+_, _*_, _<_}
+use mathlib.Core.Path.{_≡_, _∙_, ap}
 use native.Mathlib.Omega.{arith}
 use borrow.Author.Needs.{needs}
-use denote.Ref.{now}
 use lib.ListN.{length}
 use Rattle.mesh.specs.Mesh.{Inside}
 use Rattle.routes.specs.Box.{largest, far}
-use Rattle.routes.specs.Sweep.{seed, Ready, Holds, prior}
+use Rattle.routes.specs.Sweep.{Holds, prior}
 use Rattle.routes.proofs.Box.{far-in}
 use Rattle.routes.proofs.Entered.{seed-holds, layer-ways}
 use Rattle.routes.proofs.offers.ways.Statement.{statement}

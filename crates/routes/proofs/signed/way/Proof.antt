@@ -1,5 +1,4 @@
 -- `routes::signed::way` meets its contract: the three signs. Assumes nothing.
-use mathlib.Core.Path.{_≡_, refl}
 use native.Mathlib.Omega.{arith}
 use borrow.Author.Needs.{needs}
 use Rattle.mesh.proofs.Whole.{back, above-zero, below-zero, level}

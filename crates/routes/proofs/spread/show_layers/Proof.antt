@@ -1,5 +1,5 @@
 -- `routes::spread::show_layers` meets its contract: layer after layer. Assumes nothing.
-use mathlib.Core.Path.{_≡_, refl, sym, _∙_, ap, subst}
+use mathlib.Core.Path.{_≡_, refl, _∙_, ap, subst}
 use mathlib.Core.Bool.{Bool}
 use Prim.Native.Nat.{ℕ, _+_, _-_, _≤_}
 use native.Mathlib.Omega.{arith}
@@ -7,7 +7,7 @@ use denote.Ref.{now}
 use lib.ListN.{length}
 use Rattle.mesh.specs.Cells.{mapOf}
 use Rattle.mesh.specs.declared.Place.{Place}
-use Rattle.routes.specs.Sweep.{Seen, Holds, prior, Layers}
+use Rattle.routes.specs.Sweep.{Holds, prior, Layers}
 use Rattle.routes.specs.Shown.{Shown}
 use Rattle.routes.proofs.Box.{far-in}
 use Rattle.routes.proofs.Entered.{seed-holds}

@@ -1,12 +1,11 @@
 -- `routes::spread::write_reached` meets its contract: all bytes are 0, then the box's, and last the end's. Assumes nothing.
-use mathlib.Core.Path.{_≡_, refl, sym, ap, _∙_, subst}
+use mathlib.Core.Path.{_≡_, sym, ap, _∙_, subst}
 use mathlib.Core.Bool.{Bool, not, _||_}
-use mathlib.Core.List.{List}
-use Prim.Native.Nat.{ℕ, _+_, _≤_}
+use Prim.Native.Nat.{ℕ, _+_}
 use native.Mathlib.Omega.{arith}
 use borrow.Author.Needs.{needs}
 use denote.Ref.{now}
-use lib.ListN.{length, set, length-set}
+use lib.ListN.{set, length-set}
 use lib.Dec.{eqb}
 use Rattle.mesh.specs.Tools.{bit}
 use Rattle.mesh.specs.Mesh.{nodes}

@@ -1,5 +1,5 @@
 -- `routes::sweep::line` meets its contract: what the row leaves is what is seen (`line-holds`). Assumes nothing.
-use mathlib.Core.Path.{_≡_, subst}
+use mathlib.Core.Path.{_≡_}
 use mathlib.Core.List.{List}
 use Prim.Native.Nat.{ℕ, _+_}
 use native.Mathlib.Omega.{arith}

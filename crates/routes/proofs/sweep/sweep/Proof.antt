@@ -1,12 +1,11 @@
 -- `routes::sweep::sweep` meets its contract: layer after layer. Assumes nothing.
 use mathlib.Core.Path.{_≡_, refl, _∙_, subst}
-use Prim.Native.Nat.{ℕ, _+_, _-_, _≤_}
+use Prim.Native.Nat.{ℕ, _-_, _≤_}
 use native.Mathlib.Omega.{arith}
 use denote.Ref.{now}
 use lib.ListN.{length}
 use Rattle.mesh.specs.Cells.{mapOf}
 use Rattle.routes.specs.Sweep.{Layers}
-use Rattle.routes.proofs.Box.{far-in}
 use Rattle.routes.proofs.sweep.sweep.Statement.{statement}
 use Rattle.routes.proofs.sweep.sweep.Tie as tie
 
