@@ -114,13 +114,10 @@ fn is_word(word: usize) -> bool
 fn check_numbers(s: Sizes, long: usize, o: usize, k: usize, j: usize, word: usize) -> Answer
     ensures { λ r. ⌜ r ≡ checkState s long andThen checkOrientation o andThen checkNode s k andThen checkDirection j andThen checkWord word ⌝ }
 {
-    let a = check_state(s, long);
+    let a = check_question(s, o, long);
     let Answer::Done = a else {
         return a;
     };
-    if o > 7 {
-        return Answer::Refused(Refusal::BadNumber);
-    }
     if k >= s.nodes() {
         return Answer::Refused(Refusal::BadNumber);
     }
