@@ -1,9 +1,9 @@
 -- Which refusal stands, and that what is computed is what the call's equations say. Assumes nothing.
 use mathlib.Core.Path.{_≡_, refl, sym, ap, _∙_, subst}
-use mathlib.Core.Logic.{_⊎_, inl, inr}
-use mathlib.Core.Bool.{Bool, true, false}
-use mathlib.Core.List.{List, [], _∷_, _++_}
-use Prim.Native.Nat.{ℕ, zero, suc, _+_, _-_, _≤_, _<_}
+use mathlib.Core.Logic.{inl, inr}
+use mathlib.Core.Bool.{true}
+use mathlib.Core.List.{List, [], _++_}
+use Prim.Native.Nat.{ℕ, _+_, _-_, _≤_, _<_}
 use native.Mathlib.Omega.{arith}
 use borrow.Author.Tests.{le-leb}
 use lib.Dec.{T, ltb, leb, ltb→lt, nltb→le}
@@ -28,7 +28,7 @@ use Rattle.mesh.proofs.Marks.{marks-length}
 use Rattle.marks.specs.Entry.{marksAnswer}
 use Rattle.components.specs.Components.{tableOf, recordsOf, howMany}
 use Rattle.components.specs.Entry.{componentsCheck, componentsAnswer, componentsTable, componentsRow, tableWritten, rowWritten}
-use Rattle.components.specs.Grid.{gridSize, unseen, spot, gridAt}
+use Rattle.components.specs.Grid.{gridSize, spot, gridAt}
 use Rattle.components.specs.Layout.{Copied}
 use Rattle.components.specs.Label.{Untouched, Labelled}
 use Rattle.components.specs.Outcome.{Gridded, roomCheck, Settled, storedOf, Computed}

@@ -1,5 +1,5 @@
 -- `entry::compute` meets its contract: the flood on what is laid, and then the answer. Assumes nothing.
-use mathlib.Core.Path.{_≡_, sym, _∙_}
+use mathlib.Core.Path.{sym, _∙_}
 use denote.Ref.{now}
 use borrow.Author.Needs.{needs}
 use Rattle.components.proofs.Outcomes.{sized, laid-untouched, all-computed}
