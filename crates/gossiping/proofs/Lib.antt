@@ -8,3 +8,5 @@ pub mod Full
 pub mod Led
 pub mod Settled
 pub mod Turns
+pub mod Texts
+pub mod Read

@@ -1,6 +1,8 @@
 -- The text that is printed for the bytes of a map file. Assumes nothing.
+use mathlib.Core.Bool.{cond}
 use mathlib.Core.List.{List, [], _++_}
 use Prim.Native.Nat.{ℕ, zero, suc}
+use lib.Dec.{leb}
 use Rattle.mesh.specs.Cells.{Map, mapOf}
 use Rattle.mesh.specs.Answers.{refusalNo}
 use Rattle.mapfile.specs.Format.{cellsIn}
@@ -11,18 +13,26 @@ use Rattle.text.specs.Text.{ascii, decimal}
 use Rattle.report.specs.Counts.{faultyCount}
 use Rattle.report.specs.Report.{firstLine, orientations, refusalLine, largest}
 use Rattle.field.specs.Promise.{workers, enoughRounds}
+use Rattle.gossiping.specs.Rounds.{lossyRounds}
 use Rattle.gossiping.specs.Figures.{outstandingAfter, marksAfter, settledAt}
 
--- two or three words on a line, each with its number
-unfoldable pub twoOnLine : List ℕ → ℕ → List ℕ → ℕ → List ℕ
-twoOnLine a i b j = (a ++ decimal i) ++ (b ++ decimal j) ++ ascii "\n"
+-- two or three words on a line, each with its number, and the line's end
+unfoldable pub twoOnLine : List ℕ → ℕ → List ℕ → ℕ → List ℕ → List ℕ
+twoOnLine a i b j end = (a ++ decimal i) ++ (b ++ decimal j) ++ end
 
 unfoldable pub threeOnLine : List ℕ → ℕ → List ℕ → ℕ → List ℕ → ℕ → List ℕ
-threeOnLine a i b j c k = (a ++ decimal i) ++ twoOnLine b j c k
+threeOnLine a i b j c k = (a ++ decimal i) ++ twoOnLine b j c k (ascii "\n")
 
--- how much news is outstanding and how many marks are held after r rounds; round 0 is the fresh state
-abbrev pub roundLine : ℕ → ℕ → ℕ → List ℕ
-roundLine r news marks = threeOnLine (ascii "round ") r (ascii " outstanding ") news (ascii " marks ") marks
+-- which rounds have loss
+unfoldable pub legend : List ℕ
+legend = (ascii "rounds 1 to " ++ decimal lossyRounds) ++ ascii " lose, repeat, delay and reorder words\n"
+
+-- how much news is outstanding and how many marks are held after r rounds: the fresh state is round 0, and one without loss is a full round
+abbrev pub roundWord : ℕ → List ℕ
+roundWord r = cond (leb r lossyRounds) (ascii "round ") (ascii "full round ")
+
+unfoldable pub roundLine : ℕ → ℕ → ℕ → List ℕ
+roundLine r news marks = threeOnLine (roundWord r) r (ascii " outstanding ") news (ascii " marks ") marks
 
 unfoldable pub roundLines : Map → ℕ → ℕ → List ℕ
 roundLines m o zero = []
@@ -30,10 +40,10 @@ roundLines m o (suc r) = roundLines m o r ++ roundLine r (outstandingAfter m o r
 
 -- an orientation: how many nodes work, the rounds, and when they settled against the bound 2 × W + 1
 abbrev pub startLine : ℕ → ℕ → List ℕ
-startLine o w = twoOnLine (ascii "octant ") o (ascii " working ") w
+startLine o w = twoOnLine (ascii "octant ") o (ascii " working ") w (ascii "\n")
 
 abbrev pub settledLine : ℕ → ℕ → List ℕ
-settledLine r most = twoOnLine (ascii "settled after round ") r (ascii ", full rounds that always settle: ") most
+settledLine r most = twoOnLine (ascii "settled after round ") r (ascii "; ") most (ascii " full rounds always settle\n")
 
 unfoldable pub octantText : Map → ℕ → List ℕ
 octantText m o = startLine o (workers m) ++ roundLines m o (suc (settledAt m o)) ++ settledLine (settledAt m o) (enoughRounds m)
@@ -43,7 +53,7 @@ octantTexts m zero = []
 octantTexts m (suc o) = octantTexts m o ++ octantText m o
 
 abbrev pub mapText : Map → List ℕ
-mapText m = firstLine (m .sizes) (faultyCount m) ++ octantTexts m (orientations (m .sizes))
+mapText m = firstLine (m .sizes) (faultyCount m) ++ legend ++ octantTexts m (orientations (m .sizes))
 
 -- the text for a file, as of the report: a refusal is alone
 abbrev pub textOn : MapRead → List ℕ → List ℕ

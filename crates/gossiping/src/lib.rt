@@ -5,7 +5,9 @@ pub mod figuring;
 pub mod lines;
 pub mod links;
 pub mod rounds;
+pub mod running;
 pub mod talking;
+pub mod texting;
 
 // How much news is outstanding, and where the text goes on.
 pub struct Told {

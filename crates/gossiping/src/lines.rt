@@ -1,20 +1,21 @@
 // The lines that are printed.
+use crate::rounds::LOSSY_ROUNDS;
 use text::say;
 use text::say_both;
 ghost use Prim.Native.Nat.{_+_, _≤_};
 ghost use lib.ListN.{length};
 ghost use Rattle.text.specs.Text.{Said};
-ghost use Rattle.gossiping.specs.Text.{twoOnLine, threeOnLine, roundLine, startLine, settledLine};
+ghost use Rattle.gossiping.specs.Text.{twoOnLine, threeOnLine, legend, roundLine, startLine, settledLine};
 
-// A line of two words, each with its number.
-fn two(a: &[u8], i: usize, b: &[u8], j: usize, out: &mut [u8], at: usize) -> usize
-    requires { ⌜ at + (length (now a) + length (now b) + 41) ≤ length (now out) ⌝ }
-    ensures { λ r. ⌜ Said (now (out .entry)) at (twoOnLine (now (a .entry)) i (now (b .entry)) j) (now (out .exit)) r
-        × (r ≤ at + (length (now (a .entry)) + length (now (b .entry)) + 41)) ⌝ }
+// A line of two words, each with its number, and its end.
+fn two(a: &[u8], i: usize, b: &[u8], j: usize, end: &[u8], out: &mut [u8], at: usize) -> usize
+    requires { ⌜ at + (length (now a) + length (now b) + length (now end) + 40) ≤ length (now out) ⌝ }
+    ensures { λ r. ⌜ Said (now (out .entry)) at (twoOnLine (now (a .entry)) i (now (b .entry)) j (now (end .entry))) (now (out .exit)) r
+        × (r ≤ at + (length (now (a .entry)) + length (now (b .entry)) + length (now (end .entry)) + 40)) ⌝ }
 {
     let after_a = say_both(a, i, out, at);
     let after_b = say_both(b, j, out, after_a);
-    say(b"\n", out, after_b)
+    say(end, out, after_b)
 }
 
 // A line of three.
@@ -33,7 +34,16 @@ fn three(
         × (r ≤ at + (length (now (a .entry)) + length (now (b .entry)) + length (now (c .entry)) + 61)) ⌝ }
 {
     let after_a = say_both(a, i, out, at);
-    two(b, j, c, k, out, after_a)
+    two(b, j, c, k, b"\n", out, after_a)
+}
+
+// Which rounds have loss.
+pub fn legend(out: &mut [u8], at: usize) -> usize
+    requires { ⌜ at + 128 ≤ length (now out) ⌝ }
+    ensures { λ n. ⌜ Said (now (out .entry)) at legend (now (out .exit)) n × (n ≤ at + 128) ⌝ }
+{
+    let next = say_both(b"rounds 1 to ", LOSSY_ROUNDS, out, at);
+    say(b" lose, repeat, delay and reorder words\n", out, next)
 }
 
 // What is told of a round.
@@ -41,6 +51,18 @@ pub fn round_line(r: usize, news: usize, marks: usize, out: &mut [u8], at: usize
     requires { ⌜ at + 128 ≤ length (now out) ⌝ }
     ensures { λ n. ⌜ Said (now (out .entry)) at (roundLine r news marks) (now (out .exit)) n × (n ≤ at + 128) ⌝ }
 {
+    if r > LOSSY_ROUNDS {
+        return three(
+            b"full round ",
+            r,
+            b" outstanding ",
+            news,
+            b" marks ",
+            marks,
+            out,
+            at,
+        );
+    }
     three(
         b"round ",
         r,
@@ -58,7 +80,7 @@ pub fn start_line(o: usize, working: usize, out: &mut [u8], at: usize) -> usize
     requires { ⌜ at + 128 ≤ length (now out) ⌝ }
     ensures { λ n. ⌜ Said (now (out .entry)) at (startLine o working) (now (out .exit)) n × (n ≤ at + 128) ⌝ }
 {
-    two(b"octant ", o, b" working ", working, out, at)
+    two(b"octant ", o, b" working ", working, b"\n", out, at)
 }
 
 // Its last line.
@@ -69,8 +91,9 @@ pub fn settled_line(r: usize, most: usize, out: &mut [u8], at: usize) -> usize
     two(
         b"settled after round ",
         r,
-        b", full rounds that always settle: ",
+        b"; ",
         most,
+        b" full rounds always settle\n",
         out,
         at,
     )

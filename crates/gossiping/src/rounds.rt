@@ -16,7 +16,7 @@ ghost use Rattle.gossiping.specs.Rounds.{strides, visits, lossyRound, fu
 const STRIDES: [usize; 4] = [24593, 24611, 24623, 24631];
 
 // How many rounds have loss.
-const LOSSY_ROUNDS: usize = 8;
+pub const LOSSY_ROUNDS: usize = 8;
 
 // How many links there are.
 pub fn links(s: Sizes) -> usize

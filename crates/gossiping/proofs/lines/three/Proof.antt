@@ -9,6 +9,9 @@ use Rattle.gossiping.proofs.lines.three.Tie as tie
 say-both-requires : tie.Need-say-both-requires
 say-both-requires c κs = search needs
 
+slice-aggregate-two : tie.Need-slice-aggregate-two
+slice-aggregate-two c = search needs
+
 two-requires : tie.Need-two-requires
 two-requires c κs = search needs
 
@@ -19,11 +22,11 @@ returns : tie.Need-returns
 unfolding threeOnLine
 returns c =
     let rest = c .before .before in
-    let first = rest .before .before .before .before in
+    let first = rest .before .before .before .before .before in
     let s = first .before .before .before .before .before .before in
     let one = first .say-both .ensures in
     let two = rest .two .ensures in
     (said-next (omega (arith, s .pre, one .0 .place, one .1)) (one .0) (two .0), omega (arith, one .1, two .1))
 
 pub three-spec : {M : Type 1} → statement M
-three-spec = tie.close (tie.spec say-both-requires two-requires same-length returns)
+three-spec = tie.close (tie.spec say-both-requires slice-aggregate-two two-requires same-length returns)

@@ -1,4 +1,4 @@
--- `gossiping::lines::two` meets its contract: two words with their numbers, and the line feed, one after another. Assumes nothing.
+-- `gossiping::lines::two` meets its contract: two words with their numbers, and the end, one after another. Assumes nothing.
 use native.Mathlib.Omega.{arith}
 use Rattle.text.proofs.Saying.{said-next}
 use Rattle.gossiping.specs.Text.{twoOnLine}
@@ -12,9 +12,6 @@ say-both-requires c κs = search needs
 say-both-requires-2 : tie.Need-say-both-requires-2
 say-both-requires-2 c κs = search needs
 
-slice-aggregate-say : tie.Need-slice-aggregate-say
-slice-aggregate-say c = search needs
-
 say-requires : tie.Need-say-requires
 say-requires c κs = search needs
 
@@ -25,9 +22,9 @@ returns : tie.Need-returns
 unfolding twoOnLine
 returns c =
     let feed = c .before .before in
-    let second = feed .before .before .before .before .before in
+    let second = feed .before .before .before .before in
     let first = second .before .before .before .before in
-    let s = first .before .before .before .before .before in
+    let s = first .before .before .before .before .before .before in
     let one = first .say-both .ensures in
     let two = second .say-both2 .ensures in
     let end = feed .say .ensures in
@@ -42,7 +39,6 @@ two-spec =
     (tie.spec
     say-both-requires
     say-both-requires-2
-    slice-aggregate-say
     say-requires
     same-length
     returns)

@@ -1,0 +1,123 @@
+-- `gossiping::texting::map_text` meets its contract: the first line, the legend, and then the orientations. Assumes nothing.
+use mathlib.Core.Path.{_≡_, sym, ap, _∙_}
+use Prim.Native.Nat.{ℕ, _*_}
+use native.Mathlib.Omega.{arith}
+use denote.Ref.{now}
+use lib.ListN.{length, take}
+use lib.Seq.{length-take-le}
+use Rattle.mesh.proofs.Answers.{map-granted}
+use Rattle.text.proofs.Saying.{said-next, said-as}
+use Rattle.report.specs.Report.{firstLine}
+use Rattle.report.proofs.Counted.{faulty-counted}
+use borrow.Author.Needs.{needs}
+use Rattle.gossiping.proofs.texting.map_text.Statement.{statement}
+use Rattle.gossiping.proofs.texting.map_text.Tie as tie
+
+-- the parts that are lent are as long as they are to be
+state-long : (c : tie.After-nodes2) → length (take (7 * c .before .nodes .result) (c .before .before .before .blank-state .result)) ≡ 7 * c .before .nodes .result
+state-long c =
+    let n = c .before in
+    let room = n .before .before in
+    length-take-le (7 * n .nodes .result) (room .blank-state .result) (omega (arith, n .nodes .ensures .1, room .blank-state .ensures))
+
+way-long : (c : tie.After-nodes2) → length (take (6 * c .nodes2 .result) (c .before .before .blank-way .result)) ≡ 6 * c .nodes2 .result
+way-long c =
+    let room = c .before .before in
+    length-take-le (6 * c .nodes2 .result) (room .blank-way .result) (omega (arith, c .nodes2 .ensures .1, room .blank-way .ensures))
+
+blank-state-requires : tie.Need-blank-state-requires
+blank-state-requires c κs = search needs
+
+blank-way-requires : tie.Need-blank-way-requires
+blank-way-requires c κs = search needs
+
+nodes-requires : tie.Need-nodes-requires
+nodes-requires c κs = let s = c .before .before .before .before in map-granted (s .args .s) (now (s .args .cells)) (s .pre .0) .sized
+
+mul-long : tie.Need-mul-long
+mul-long c = search needs
+
+nodes-requires-2 : tie.Need-nodes-requires-2
+nodes-requires-2 c κs = let s = c .before .before .before .before .before in map-granted (s .args .s) (now (s .args .cells)) (s .pre .0) .sized
+
+mul-wide : tie.Need-mul-wide
+mul-wide c = search needs
+
+count-faulty-requires : tie.Need-count-faulty-requires
+count-faulty-requires c κs = search needs
+
+first-line-requires : tie.Need-first-line-requires
+first-line-requires c κs = search needs
+
+legend-requires : tie.Need-legend-requires
+legend-requires c κs = search needs
+
+array-borrow-prefix-state : tie.Need-array-borrow-prefix-state
+array-borrow-prefix-state c = search needs
+
+slice-aggregate-octant-texts : tie.Need-slice-aggregate-octant-texts
+slice-aggregate-octant-texts c = sym (state-long (c .before .before .before .before .before .before .before .before .before .before))
+
+array-borrow-prefix-way : tie.Need-array-borrow-prefix-way
+array-borrow-prefix-way c = search needs
+
+slice-aggregate-octant-texts-2 : tie.Need-slice-aggregate-octant-texts-2
+slice-aggregate-octant-texts-2 c = sym (way-long (c .before .before .before .before .before .before .before .before .before .before .before))
+
+octant-texts-requires : tie.Need-octant-texts-requires
+octant-texts-requires c κs =
+    let second = c .before .before .before .before .before in
+    let first = second .before .before .before .before in
+    let n = first .before .before .before in
+    let s = n .before .before .before .before .before .before in (
+      s .pre .0,
+      state-long n ∙ ap (λ (k : ℕ). 7 * k) (n .before .nodes .ensures .0),
+      way-long n ∙ ap (λ (k : ℕ). 6 * k) (n .nodes2 .ensures .0),
+      omega (
+        arith,
+        s .pre .1,
+        first .first-line .ensures .1,
+        first .first-line .kept .1 .1 .0,
+        second .legend .ensures .1,
+        second .legend .kept .0,
+      ),
+    )
+
+same-length : tie.Need-same-length
+same-length c = search needs
+
+returns : tie.Need-returns
+returns c =
+    let rest = c .before .before .before .before in
+    let second = rest .before .before .before .before .before .before in
+    let first = second .before .before .before .before in
+    let faulty = first .before .before in
+    let s = faulty .before .before .before .before .before .before .before in
+    let a = s .args in
+    let e = faulty .count-faulty .ensures ∙ faulty-counted (a .s) (now (a .cells)) (s .pre .0) in
+    let one = said-as (ap (firstLine (a .s)) e) (first .first-line .ensures .0) in
+    let two = said-next (omega (arith, s .pre .1, one .place, first .first-line .ensures .1)) one (second .legend .ensures .0) in (
+      said-next (omega (arith, s .pre .1, two .place, first .first-line .ensures .1, second .legend .ensures .1)) two (rest .octant-texts .ensures .0),
+      omega (arith, first .first-line .ensures .1, second .legend .ensures .1, rest .octant-texts .ensures .1),
+    )
+
+pub map-text-spec : {M : Type 1} → statement M
+map-text-spec =
+    tie.close
+    (tie.spec
+    blank-state-requires
+    blank-way-requires
+    nodes-requires
+    mul-long
+    nodes-requires-2
+    mul-wide
+    count-faulty-requires
+    first-line-requires
+    legend-requires
+    array-borrow-prefix-state
+    slice-aggregate-octant-texts
+    array-borrow-prefix-way
+    slice-aggregate-octant-texts-2
+    octant-texts-requires
+    same-length
+    returns)

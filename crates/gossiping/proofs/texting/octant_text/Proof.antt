@@ -1,0 +1,91 @@
+-- `gossiping::texting::octant_text` meets its contract: the first line, the rounds from the fresh state on, and the last line. Assumes nothing.
+use mathlib.Core.Path.{ap, ap₂, _∙_}
+use Prim.Native.Nat.{ℕ, _+_, _*_}
+use native.Mathlib.Omega.{arith}
+use denote.Ref.{now}
+use lib.ListN.{replicate}
+use Rattle.text.proofs.Saying.{said-next, said-as}
+use Rattle.gossiping.specs.Text.{startLine, settledLine, octantText}
+use Rattle.gossiping.proofs.Texts.{made-fresh}
+use borrow.Author.Needs.{needs}
+use Rattle.gossiping.proofs.texting.octant_text.Statement.{statement}
+use Rattle.gossiping.proofs.texting.octant_text.Tie as tie
+
+fresh-requires : tie.Need-fresh-requires
+fresh-requires c κs = search needs
+
+clear-requires : tie.Need-clear-requires
+clear-requires c κs = search needs
+
+working-requires : tie.Need-working-requires
+working-requires c κs = search needs
+
+start-line-requires : tie.Need-start-line-requires
+start-line-requires c κs = search needs
+
+talk-requires : tie.Need-talk-requires
+talk-requires c κs =
+    let line = c .before .before .before .before .before in
+    let clear = line .before .before .before .before .before in
+    let made = clear .before .before .before .before in
+    let s = made .before .before .before .before .before .before in
+    let a = s .args in (
+      s .pre .0,
+      s .pre .1,
+      made .fresh .ensures .1 ∙ made-fresh (a .s) (now (a .cells)) (a .o) (now (a .state)) (s .pre .0) (s .pre .1) (s .pre .2),
+      clear .clear .ensures ∙ ap (λ (n : ℕ). replicate n 0) (s .pre .3),
+      omega (arith, s .pre .4, line .start-line .ensures .1, line .start-line .kept .1 .1 .0),
+    )
+
+mul-settled-line : tie.Need-mul-settled-line
+mul-settled-line c = search needs
+
+add-settled-line : tie.Need-add-settled-line
+add-settled-line c = search needs
+
+settled-line-requires : tie.Need-settled-line-requires
+settled-line-requires c κs = search needs
+
+same-length : tie.Need-same-length
+same-length c = search needs
+
+same-length-2 : tie.Need-same-length-2
+same-length-2 c = search needs
+
+same-length-3 : tie.Need-same-length-3
+same-length-3 c = search needs
+
+returns : tie.Need-returns
+unfolding octantText
+returns c =
+    let last = c .before .before in
+    let talk = last .before .before .before .before .before .before .before .before in
+    let line = talk .before .before .before .before .before .before in
+    let work = line .before .before in
+    let s = work .before .before .before .before .before .before .before .before .before .before .before .before .before in
+    let a = s .args in
+    let w = work .working .ensures .0 in
+    let (e, rounds, room) = talk .talk .ensures in
+    let one = said-as (ap (startLine (a .o)) w) (line .start-line .ensures .0) in
+    let two = said-next (omega (arith, s .pre .4, one .place, line .start-line .ensures .1)) one rounds in
+    let three = said-as (ap₂ settledLine e (ap (λ (n : ℕ). 2 * n + 1) w)) (last .settled-line .ensures .0) in (
+      said-next (omega (arith, s .pre .4, two .place, room, line .start-line .ensures .1)) two three,
+      omega (arith, line .start-line .ensures .1, room, last .settled-line .ensures .1),
+    )
+
+pub octant-text-spec : {M : Type 1} → statement M
+octant-text-spec =
+    tie.close
+    (tie.spec
+    fresh-requires
+    clear-requires
+    working-requires
+    start-line-requires
+    talk-requires
+    mul-settled-line
+    add-settled-line
+    settled-line-requires
+    same-length
+    same-length-2
+    same-length-3
+    returns)
