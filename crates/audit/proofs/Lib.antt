@@ -2,4 +2,6 @@ pub mod Digits
 pub mod Entries
 pub mod Pieces
 pub mod Drawing
+pub mod Judged
+pub mod Passing
 pub mod Sample

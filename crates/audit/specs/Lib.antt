@@ -1,3 +1,5 @@
 pub mod Log
 pub mod Words
 pub mod Picture
+pub mod Audit
+pub mod Heading

@@ -1,9 +1,14 @@
 // The audit of a log of transfers on a map: the log read line by line, and the text for each transfer, proved byte by byte.
 
+pub mod auditing;
 pub mod columns;
+pub mod counting;
 pub mod ends;
+pub mod heading;
+pub mod lines;
 pub mod log;
 pub mod picture;
+pub mod running;
 pub mod symbols;
 pub mod words;
 
@@ -26,4 +31,19 @@ pub enum Stop {
     Comment,
     Blank,
     Word,
+}
+
+// How many lines were read; of these, transfers granted, refused for want of a path, and refused otherwise; and lines that are no pair.
+pub struct Totals {
+    pub lines: usize,
+    pub granted: usize,
+    pub pathless: usize,
+    pub refused: usize,
+    pub unread: usize,
+}
+
+// The totals with a line, and how many bytes its text takes.
+pub struct Audited {
+    pub totals: Totals,
+    pub used: usize,
 }

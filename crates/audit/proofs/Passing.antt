@@ -1,0 +1,99 @@
+-- The lines of a log, one after another: where the next one ends, what it adds to the totals, and that none is added at the end.
+-- Assumes nothing.
+use mathlib.Core.Path.{_≡_, refl, sym, ap, _∙_}
+use mathlib.Core.Bool.{Bool, true, false, cond}
+use mathlib.Core.List.{List, [], _∷_}
+use Prim.Native.Nat.{ℕ, suc, _+_, _≤_, _<_}
+use native.Mathlib.Omega.{arith}
+use lib.Dec.{eqb}
+use lib.ListN.{length, take, drop, length-drop, drop-of-length-le}
+use lib.Seq.{length-take-le, drop-drop}
+use Rattle.mesh.specs.Cells.{firstBad}
+use Rattle.mesh.specs.declared.Sizes.{Sizes}
+use Rattle.mesh.proofs.Answers.{first-le}
+use Rattle.routes.specs.Entries.{verdictAnswer}
+use Rattle.routes.specs.declared.Verdict.{Verdict}
+use Rattle.routes.specs.declared.Verdict.the-variants.{Granted, NotGranted}
+use Rattle.audit.specs.Log.{stops, before, upTo, entryOf}
+use Rattle.audit.specs.Audit.{noPath, plus, judge, tally, lineTotals, intoFirst, linesOf, totalsFrom, Few}
+use Rattle.audit.specs.declared.Entry.{Entry}
+use Rattle.audit.specs.declared.Entry.the-variants.{Nothing, Transfer, NoPair}
+use Rattle.audit.specs.declared.Stop.the-variants.{Feed}
+use Rattle.audit.specs.declared.Totals.{Totals}
+
+-- a line, and what follows its line feed
+abbrev Next : List ℕ → Type 0
+Next l = linesOf l ≡ upTo Feed l ∷ linesOf (drop (before Feed l + 1) l)
+
+after : (b n : ℕ) (l : List ℕ) → drop (n + 1) l ≡ drop (suc n + 1) (b ∷ l)
+after b n l = let e : suc (n + 1) ≡ suc n + 1 = omega arith in ap (λ (k : ℕ). drop k (b ∷ l)) e
+
+lines-next : (b : ℕ) (bs : List ℕ) → Next (b ∷ bs)
+unfolding linesOf firstBad
+lines-next b [] = go (eqb b 10)
+  where
+    go : (t : Bool) → cond t ([] ∷ []) ((b ∷ []) ∷ []) ≡ take (cond t 0 1) (b ∷ []) ∷ linesOf (drop (cond t 0 1 + 1) (b ∷ []))
+    go true = refl
+    go false = refl
+lines-next b (d ∷ l) = go (eqb b 10) (lines-next d l)
+  where
+    go : (t : Bool) → Next (d ∷ l) → cond t ([] ∷ linesOf (d ∷ l)) (intoFirst b (linesOf (d ∷ l)))
+        ≡ take (cond t 0 (suc (before Feed (d ∷ l)))) (b ∷ d ∷ l) ∷ linesOf (drop (cond t 0 (suc (before Feed (d ∷ l))) + 1) (b ∷ d ∷ l))
+    go true h = refl
+    go false h = ap (intoFirst b) h ∙ ap (λ (r : List ℕ). (b ∷ upTo Feed (d ∷ l)) ∷ linesOf r) (after b (before Feed (d ∷ l)) (d ∷ l))
+
+lines-from : (l : List ℕ) → 0 < length l → linesOf l ≡ upTo Feed l ∷ linesOf (drop (before Feed l + 1) l)
+lines-from [] h = absurd (omega arith)
+lines-from (b ∷ bs) h = lines-next b bs
+
+-- a line ends where the log does, at the latest
+pub line-within : (log line : List ℕ) (at : ℕ) → line ≡ upTo Feed (drop at log) → at ≤ length log → at + length line ≤ length log
+line-within log line at is h =
+    let rest = drop at log in
+    let n = before Feed rest in
+    let k : n ≤ length rest = first-le (λ i. stops Feed) rest in
+    omega (arith, ap length is ∙ length-take-le n rest k, length-drop at log)
+
+pub more : {t : Totals} {n k : ℕ} → Few t n → n ≤ k → Few t k
+more few h = omega (arith, few .lines-le, few .granted-le, few .pathless-le, few .refused-le, few .unread-le)
+
+module _ (S : Sizes) (cells : List ℕ) where
+  module _ (log : List ℕ) (at : ℕ) (t : Totals) where
+    pub totals-next : (line : List ℕ) → line ≡ upTo Feed (drop at log) → at < length log
+        → totalsFrom S cells t (linesOf (drop at log))
+        ≡ totalsFrom S cells (lineTotals S cells t line) (linesOf (drop (at + (length line + 1)) log))
+    unfolding totalsFrom
+    totals-next line is h =
+        let rest = drop at log in
+        let n = before Feed rest in
+        let e : length line ≡ n = ap length is ∙ length-take-le n rest (first-le (λ k. stops Feed) rest) in
+        ap (totalsFrom S cells t) (lines-from rest (omega (arith, length-drop at log)))
+        ∙ ap (λ (l : List ℕ). totalsFrom S cells (lineTotals S cells t l) (linesOf (drop (n + 1) rest))) (sym is)
+        ∙ ap (λ (l : List ℕ). totalsFrom S cells (lineTotals S cells t line) (linesOf l))
+        (drop-drop (n + 1) at log ∙ ap (λ (k : ℕ). drop (at + (k + 1)) log) (sym e))
+
+    pub totals-end : length log ≤ at → totalsFrom S cells t (linesOf (drop at log)) ≡ t
+    unfolding totalsFrom linesOf
+    totals-end h = ap (λ (l : List ℕ). totalsFrom S cells t (linesOf l)) (drop-of-length-le log h)
+
+  -- a line adds at most one to each total
+  module _ (t : Totals) (n : ℕ) (few : Few t n) where
+    few-plus : (g p r u : ℕ) → g ≤ 1 → p ≤ 1 → r ≤ 1 → u ≤ 1 → Few (plus t g p r u) (n + 1)
+    few-plus g p r u hg hp hr hu = omega (arith, few .lines-le, few .granted-le, few .pathless-le, few .refused-le, few .unread-le)
+
+    few-judge : (v : Verdict) → Few (judge t v) (n + 1)
+    few-judge (Granted h o) = few-plus 1 0 0 0 (omega arith) (omega arith) (omega arith) (omega arith)
+    few-judge (NotGranted r) = go (noPath r)
+      where
+        go : (x : Bool) → Few (cond x (plus t 0 1 0 0) (plus t 0 0 1 0)) (n + 1)
+        go true = few-plus 0 1 0 0 (omega arith) (omega arith) (omega arith) (omega arith)
+        go false = few-plus 0 0 1 0 (omega arith) (omega arith) (omega arith) (omega arith)
+
+    few-tally : (y : Entry) → Few (tally S cells t y) (n + 1)
+    few-tally Nothing = few-plus 0 0 0 0 (omega arith) (omega arith) (omega arith) (omega arith)
+    few-tally (Transfer s e) = few-judge (verdictAnswer S cells s e)
+    few-tally NoPair = few-plus 0 0 0 1 (omega arith) (omega arith) (omega arith) (omega arith)
+
+    pub few-line : (line : List ℕ) → Few (lineTotals S cells t line) (n + 1)
+    unfolding lineTotals
+    few-line line = few-tally (entryOf line)

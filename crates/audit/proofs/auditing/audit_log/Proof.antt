@@ -1,0 +1,120 @@
+-- `audit::auditing::audit_log` meets its contract. Assumes nothing.
+use mathlib.Core.Path.{_≡_, refl, sym, ap, _∙_, subst⁻¹}
+use Prim.Native.Nat.{ℕ, _+_, _-_, _≤_}
+use native.Mathlib.Omega.{arith}
+use borrow.Author.Needs.{needs}
+use denote.Ref.{now}
+use lib.ListN.{length, drop}
+use lib.Seq.{length-take-le}
+use Rattle.audit.specs.Audit.{linesOf, totalsFrom, totalsOf, Few}
+use Rattle.audit.specs.declared.Totals.{Totals}
+use Rattle.audit.proofs.Passing.{more, line-within, totals-next, totals-end, few-line}
+use Rattle.audit.proofs.auditing.audit_log.Statement.{statement}
+use Rattle.audit.proofs.auditing.audit_log.Tie as tie
+
+abbrev Inv-loop : tie.InvT-loop
+Inv-loop s cells log out₀ t₀ at₀ out t at =
+    (at ≤ length log + 1) × Few t at × (length out ≡ length out₀) × (totalsFrom s cells t (linesOf (drop at log)) ≡ totalsOf s cells log)
+
+abbrev μ-loop : tie.MeasureT-loop
+μ-loop s cells log out₀ t₀ at₀ out t at = length log + 1 - at
+
+-- the line is within the log, and its text within its room
+within : (c : tie.After-line-from Inv-loop μ-loop) →
+    let l = c .before .before in
+    l .loop .at + length (now (c .line-from .result)) ≤ length (now (l .before .before .before .before .before .args .log))
+within c =
+    let l = c .before .before in
+    line-within (now (l .before .before .before .before .before .args .log)) (now (c .line-from .result)) (l .loop .at) (c .line-from .ensures) (omega (arith, c .before .loop-test .taken))
+
+fits : (c : tie.After-audit-line Inv-loop μ-loop) → c .audit-line .result .used ≤ length (c .audit-line .last .1 .1 .1 .1 .0)
+fits c =
+    let l = c .before .before .before .before in
+    omega (arith, c .audit-line .ensures .2, c .audit-line .kept .1 .1 .1 .1 .0, l .loop .inv .2, l .before .before .before .before .before .pre .1)
+
+none-requires : tie.Need-none-requires Inv-loop μ-loop
+none-requires c κs = search needs
+
+loop-holds : tie.Need-loop-holds Inv-loop μ-loop
+loop-holds c =
+    let a = c .before .before .before .before .args in (
+      omega arith,
+      rw (c .none .ensures) (omega arith),
+      refl,
+      ap (λ (t : Totals). totalsFrom (a .s) (now (a .cells)) t (linesOf (now (a .log)))) (c .none .ensures),
+    )
+
+line-from-requires : tie.Need-line-from-requires Inv-loop μ-loop
+line-from-requires c κs = omega arith
+
+audit-line-requires : tie.Need-audit-line-requires Inv-loop μ-loop
+audit-line-requires c κs =
+    let l = c .before .before .before in
+    let s = l .before .before .before .before .before .pre in
+    (more (l .loop .inv .1) (omega (arith, s .0, c .before .before .loop-test .taken)), omega (arith, s .1, l .loop .inv .2))
+
+slice-reshare-prefix-write-all : tie.Need-slice-reshare-prefix-write-all Inv-loop μ-loop
+slice-reshare-prefix-write-all c = fits (c .before .before .before)
+
+slice-aggregate-write-all : tie.Need-slice-aggregate-write-all Inv-loop μ-loop
+slice-aggregate-write-all c =
+    let d = c .before .before .before .before in
+    sym (length-take-le (d .audit-line .result .used) (d .audit-line .last .1 .1 .1 .1 .0) (fits d))
+
+write-all-requires : tie.Need-write-all-requires Inv-loop μ-loop
+write-all-requires c κs = search needs
+
+add-at : tie.Need-add-at Inv-loop μ-loop
+add-at c = omega (arith, within (c .before .before .before .before .before .before .before), c .before .before .before .before .before .before .before .before .before .before .before .before .before .before .pre .0)
+
+add-at-2 : tie.Need-add-at-2 Inv-loop μ-loop
+add-at-2 c = omega (arith, within (c .before .before .before .before .before .before .before), c .before .before .before .before .before .before .before .before .before .before .before .before .before .before .pre .0)
+
+loop-less : tie.Need-loop-less Inv-loop μ-loop
+loop-less c = omega arith
+
+loop-again : tie.Need-loop-again Inv-loop μ-loop
+loop-again c =
+    let d = c .before .before .before .before .before in
+    let line = d .before .before in
+    let l = line .before .before in
+    let a = l .before .before .before .before .before .args in
+    let text = now (line .line-from .result) in
+    let is = d .audit-line .ensures .0 in
+    let few = subst⁻¹ (λ (t : Totals). Few t (l .loop .at + 1)) is (few-line (a .s) (now (a .cells)) (l .loop .t) (l .loop .at) (l .loop .inv .1) text) in (
+      omega (arith, within line),
+      more few (omega arith),
+      d .audit-line .kept .1 .1 .1 .1 .0 ∙ l .loop .inv .2,
+      ap (λ (t : Totals). totalsFrom (a .s) (now (a .cells)) t (linesOf (drop (l .loop .at + (length text + 1)) (now (a .log))))) is
+          ∙ sym (totals-next (a .s) (now (a .cells)) (now (a .log)) (l .loop .at) (l .loop .t) text (line .line-from .ensures) (line .before .loop-test .taken))
+          ∙ l .loop .inv .3,
+    )
+
+same-length : tie.Need-same-length Inv-loop μ-loop
+same-length c = c .before .loop .inv .2
+
+returns : tie.Need-returns Inv-loop μ-loop
+returns c =
+    let l = c .before in
+    let a = l .before .before .before .before .before .args in
+    sym (totals-end (a .s) (now (a .cells)) (now (a .log)) (l .loop .at) (l .loop .t) (omega arith)) ∙ l .loop .inv .3
+
+pub audit-log-spec : {M : Type 1} → statement M
+audit-log-spec =
+    tie.close
+    (tie.spec
+    Inv-loop
+    μ-loop
+    none-requires
+    loop-holds
+    line-from-requires
+    audit-line-requires
+    slice-reshare-prefix-write-all
+    slice-aggregate-write-all
+    write-all-requires
+    add-at
+    add-at-2
+    loop-less
+    loop-again
+    same-length
+    returns)

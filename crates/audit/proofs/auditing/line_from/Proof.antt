@@ -1,0 +1,35 @@
+-- `audit::auditing::line_from` meets its contract. Assumes nothing.
+use mathlib.Core.Path.{ap, _∙_}
+use Prim.Native.Nat.{_-_, _≤_}
+use native.Mathlib.Omega.{arith}
+use denote.Ref.{now}
+use lib.ListN.{length, drop, length-drop}
+use lib.Seq.{take-all}
+use Rattle.audit.specs.Log.{upTo}
+use Rattle.audit.specs.declared.Stop.the-variants.{Feed}
+use borrow.Author.Needs.{needs}
+use Rattle.audit.proofs.auditing.line_from.Statement.{statement}
+use Rattle.audit.proofs.auditing.line_from.Tie as tie
+
+sub-up-to : tie.Need-sub-up-to
+sub-up-to c = search needs
+
+part-up-to-start : tie.Need-part-up-to-start
+part-up-to-start c = search needs
+
+part-up-to-end : tie.Need-part-up-to-end
+part-up-to-end c = search needs
+
+up-to-requires : tie.Need-up-to-requires
+up-to-requires c κs = search needs
+
+returns : tie.Need-returns
+returns c =
+    let a = c .before .before .before .args in
+    let log = now (a .log) in
+    let fits : length (drop (a .at) log) ≤ length log - a .at = omega (arith, length-drop (a .at) log) in
+    c .up-to .ensures ∙ ap (upTo Feed) (take-all (length log - a .at) (drop (a .at) log) fits)
+
+pub line-from-spec : {M : Type 1} → statement M
+line-from-spec =
+    tie.close (tie.spec sub-up-to part-up-to-start part-up-to-end up-to-requires returns)

@@ -1,0 +1,38 @@
+-- `audit::counting::say_refused` meets its contract. Assumes nothing.
+use native.Mathlib.Omega.{arith}
+use Rattle.audit.proofs.Pieces.{said-then}
+use borrow.Author.Needs.{needs}
+use Rattle.audit.proofs.counting.say_refused.Statement.{statement}
+use Rattle.audit.proofs.counting.say_refused.Tie as tie
+
+slice-aggregate-say-both : tie.Need-slice-aggregate-say-both
+slice-aggregate-say-both c = search needs
+
+say-both-requires : tie.Need-say-both-requires
+say-both-requires c κs = search needs
+
+slice-aggregate-say-both-2 : tie.Need-slice-aggregate-say-both-2
+slice-aggregate-say-both-2 c = search needs
+
+say-both-requires-2 : tie.Need-say-both-requires-2
+say-both-requires-2 c κs = search needs
+
+same-length : tie.Need-same-length
+same-length c = search needs
+
+returns : tie.Need-returns
+returns c =
+    let refused = c .before .before in
+    let pathless = refused .before .before .before .before .before in
+    said-then 42 40 (omega (arith, pathless .before .before .before .before .pre)) (pathless .say-both .ensures) (refused .say-both2 .ensures)
+
+pub say-refused-spec : {M : Type 1} → statement M
+say-refused-spec =
+    tie.close
+    (tie.spec
+    slice-aggregate-say-both
+    say-both-requires
+    slice-aggregate-say-both-2
+    say-both-requires-2
+    same-length
+    returns)

@@ -1,0 +1,55 @@
+-- `audit::counting::say_totals` meets its contract. Assumes nothing.
+use native.Mathlib.Omega.{arith}
+use Rattle.audit.specs.Audit.{totalsText}
+use Rattle.audit.proofs.Pieces.{said-exact, said-then}
+use borrow.Author.Needs.{needs}
+use Rattle.audit.proofs.counting.say_totals.Statement.{statement}
+use Rattle.audit.proofs.counting.say_totals.Tie as tie
+
+say-granted-requires : tie.Need-say-granted-requires
+say-granted-requires c κs = search needs
+
+say-refused-requires : tie.Need-say-refused-requires
+say-refused-requires c κs = search needs
+
+slice-aggregate-say-both : tie.Need-slice-aggregate-say-both
+slice-aggregate-say-both c = search needs
+
+say-both-requires : tie.Need-say-both-requires
+say-both-requires c κs = search needs
+
+slice-aggregate-say : tie.Need-slice-aggregate-say
+slice-aggregate-say c = search needs
+
+say-requires : tie.Need-say-requires
+say-requires c κs = search needs
+
+same-length : tie.Need-same-length
+same-length c = search needs
+
+returns : tie.Need-returns
+unfolding totalsText
+returns c =
+    let feed = c .before .before in
+    let unread = feed .before .before .before .before .before in
+    let refused = unread .before .before .before .before .before in
+    let granted = refused .before .before .before .before in
+    let fits = granted .before .before .before .pre in
+    let a = said-then 64 82 (omega (arith, fits)) (granted .say-granted .ensures .0, omega (arith, granted .say-granted .ensures .1))
+    (refused .say-refused .ensures) in
+    let b = said-then 146 41 (omega (arith, fits)) a (unread .say-both .ensures) in
+    let said = said-then 187 1 (omega (arith, fits)) b (said-exact (feed .say .ensures)) in
+    (said .0, omega (arith, said .1))
+
+pub say-totals-spec : {M : Type 1} → statement M
+say-totals-spec =
+    tie.close
+    (tie.spec
+    say-granted-requires
+    say-refused-requires
+    slice-aggregate-say-both
+    say-both-requires
+    slice-aggregate-say
+    say-requires
+    same-length
+    returns)

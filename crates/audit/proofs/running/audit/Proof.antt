@@ -1,0 +1,96 @@
+-- `audit::running::audit` is safe and ends. Assumes nothing.
+use mathlib.Core.Path.{_≡_, sym, ap, _∙_, subst}
+use mathlib.Core.List.{List}
+use Prim.Native.Nat.{ℕ}
+use native.Mathlib.Omega.{arith}
+use borrow.Author.Needs.{needs}
+use denote.Ref.{now}
+use lib.Seq.{length-take-le}
+use Rattle.mesh.specs.Mesh.{InRange}
+use Rattle.mesh.specs.declared.Sizes.{Sizes}
+use Rattle.mesh.proofs.Answers.{map-granted}
+use Rattle.mapfile.specs.Format.{sizesIn, cellsIn}
+use Rattle.mapfile.specs.Entry.{readCheck, readAnswer}
+use Rattle.mapfile.specs.declared.MapRead.the-variants.{Read}
+use Rattle.mapfile.proofs.Refusals.{read-ordered}
+use Rattle.mapfile.proofs.Reading.{read-as}
+use Rattle.audit.proofs.running.audit.Statement.{statement}
+use Rattle.audit.proofs.running.audit.Tie as tie
+
+-- what was read has sizes in range
+sized : (file : List ℕ) (S : Sizes) → readAnswer file 4096 ≡ Read S → InRange S
+unfolding readAnswer
+sized file S is =
+    let (checked, same) = read-as (readCheck file 4096) (sizesIn file) S .0 is in
+    subst (λ (Z : Sizes). InRange Z) same (map-granted (sizesIn file) (cellsIn file) (read-ordered file 4096 checked) .sized)
+
+blank-cells-requires : tie.Need-blank-cells-requires
+blank-cells-requires c κs = search needs
+
+large-buffer-requires : tie.Need-large-buffer-requires
+large-buffer-requires c κs = search needs
+
+slice-aggregate-read-map : tie.Need-slice-aggregate-read-map
+slice-aggregate-read-map c = search needs
+
+read-map-requires : tie.Need-read-map-requires
+read-map-requires c κs = search needs
+
+enum-known-s : tie.Need-enum-known-s
+enum-known-s c = search needs
+
+nodes-requires : tie.Need-nodes-requires
+nodes-requires c κs =
+    let read = c .before .before .before .before in
+    let made = read .before .before .before in
+    let file = now (made .before .before .before .args .map) in
+    sized file (c .before .s .given .0 .0)
+    (ap (readAnswer file) (made .blank-cells .ensures) ∙ sym (read .read-map .ensures .0) ∙ c .before .s .given .1)
+
+array-share-prefix-cells : tie.Need-array-share-prefix-cells
+array-share-prefix-cells c = search needs
+
+slice-aggregate-print-audit : tie.Need-slice-aggregate-print-audit
+slice-aggregate-print-audit c =
+    let n = c .before in
+    let read = n .before .before .before .before .before in
+    let made = read .before .before .before in
+    sym (length-take-le (n .nodes .result) (read .read-map .last .1 .0)
+    (omega (arith, n .nodes .ensures .1, read .read-map .kept .1 .0, made .blank-cells .ensures)))
+
+slice-aggregate-print-audit-2 : tie.Need-slice-aggregate-print-audit-2
+slice-aggregate-print-audit-2 c = search needs
+
+print-audit-requires : tie.Need-print-audit-requires
+print-audit-requires c κs = search needs
+
+enum-known-r : tie.Need-enum-known-r
+enum-known-r c = search needs
+
+print-refused-requires : tie.Need-print-refused-requires
+print-refused-requires c κs = search needs
+
+returns : tie.Need-returns
+returns c = search needs
+
+returns-2 : tie.Need-returns-2
+returns-2 c = search needs
+
+pub audit-spec : {M : Type 1} → statement M
+audit-spec =
+    tie.close
+    (tie.spec
+    blank-cells-requires
+    large-buffer-requires
+    slice-aggregate-read-map
+    read-map-requires
+    enum-known-s
+    nodes-requires
+    array-share-prefix-cells
+    slice-aggregate-print-audit
+    slice-aggregate-print-audit-2
+    print-audit-requires
+    enum-known-r
+    print-refused-requires
+    returns
+    returns-2)

@@ -1,0 +1,117 @@
+-- The audit of a log: the text for each of its lines, and the totals. Assumes nothing.
+use mathlib.Core.Bool.{Bool, cond}
+use mathlib.Core.List.{List, [], _∷_, _++_}
+use Prim.Native.Nat.{ℕ, _+_, _≤_}
+use lib.Dec.{eqb}
+use lib.ListN.{getD}
+use Rattle.mesh.specs.Mesh.{placeOf}
+use Rattle.mesh.specs.Cells.{mapOf}
+use Rattle.mesh.specs.Answers.{refusalNo}
+use Rattle.mesh.specs.declared.Sizes.{Sizes}
+use Rattle.mesh.specs.declared.Refusal.{Refusal}
+use Rattle.routes.specs.Offered.{route}
+use Rattle.routes.specs.Entries.{verdictAnswer}
+use Rattle.routes.specs.declared.Verdict.{Verdict}
+use Rattle.routes.specs.declared.Verdict.the-variants.{Granted, NotGranted}
+use Rattle.text.specs.Text.{ascii, decimal}
+use Rattle.audit.specs.Log.{entryOf}
+use Rattle.audit.specs.Words.{pieces, spaced, reason}
+use Rattle.audit.specs.Picture.{picture}
+use Rattle.audit.specs.declared.Entry.{Entry}
+use Rattle.audit.specs.declared.Entry.the-variants.{Nothing, Transfer, NoPair}
+use Rattle.audit.specs.declared.Totals.{Totals}
+
+-- "granted with hops and the route"
+unfoldable pub grantedText : ℕ → List ℕ → List ℕ
+grantedText h nodes = (ascii ": granted, hops " ++ decimal h) ++ ascii ", route" ++ pieces (λ i. spaced (getD nodes i 0)) (h + 1) ++ ascii "\n"
+
+-- "or the refusal with its reason in words; for `no path` then a picture"
+abbrev pub noPath : Refusal → Bool
+noPath r = eqb (refusalNo r) 10
+
+unfoldable pub refusedText : Sizes → List ℕ → ℕ → ℕ → Refusal → List ℕ
+refusedText S cells s e r = ascii ": refused " ++ reason r ++ ascii "\n" ++ cond (noPath r) (picture (mapOf S cells) s e) []
+
+abbrev pub verdictText : Sizes → List ℕ → ℕ → ℕ → Verdict → List ℕ
+verdictText S cells s e (Granted h o) = grantedText h (route (mapOf S cells) (placeOf S e) (placeOf S s))
+verdictText S cells s e (NotGranted r) = refusedText S cells s e r
+
+-- a transfer, on line k
+unfoldable pub headText : ℕ → ℕ → ℕ → List ℕ
+headText k s e = (ascii "line " ++ decimal k) ++ (ascii ": " ++ decimal s) ++ (ascii " to " ++ decimal e)
+
+abbrev pub transferText : Sizes → List ℕ → ℕ → ℕ → ℕ → List ℕ
+transferText S cells k s e = headText k s e ++ verdictText S cells s e (verdictAnswer S cells s e)
+
+-- "A line that is no pair of numbers is reported with its line number"
+unfoldable pub noPairText : ℕ → List ℕ
+noPairText k = (ascii "line " ++ decimal k) ++ ascii ": no pair of numbers\n"
+
+abbrev pub entryText : Sizes → List ℕ → ℕ → Entry → List ℕ
+entryText S cells k Nothing = []
+entryText S cells k (Transfer s e) = transferText S cells k s e
+entryText S cells k NoPair = noPairText k
+
+-- one line more, which counts in one of four ways
+abbrev pub plus : Totals → ℕ → ℕ → ℕ → ℕ → Totals
+plus t g p r u = record {
+  lines = t .lines + 1;
+  granted = t .granted + g;
+  pathless = t .pathless + p;
+  refused = t .refused + r;
+  unread = t .unread + u;
+}
+
+abbrev pub judge : Totals → Verdict → Totals
+judge t (Granted h o) = plus t 1 0 0 0
+judge t (NotGranted r) = cond (noPath r) (plus t 0 1 0 0) (plus t 0 0 1 0)
+
+abbrev pub tally : Sizes → List ℕ → Totals → Entry → Totals
+tally S cells t Nothing = plus t 0 0 0 0
+tally S cells t (Transfer s e) = judge t (verdictAnswer S cells s e)
+tally S cells t NoPair = plus t 0 0 0 1
+
+-- what is said of a line after others with these totals, the first being line 1; and the totals with it
+unfoldable pub lineText : Sizes → List ℕ → Totals → List ℕ → List ℕ
+lineText S cells t line = entryText S cells (t .lines + 1) (entryOf line)
+
+unfoldable pub lineTotals : Sizes → List ℕ → Totals → List ℕ → Totals
+lineTotals S cells t line = tally S cells t (entryOf line)
+
+-- the lines of a log: a line feed ends a line, and the last may lack it
+abbrev pub intoFirst : ℕ → List (List ℕ) → List (List ℕ)
+intoFirst b [] = (b ∷ []) ∷ []
+intoFirst b (l ∷ ls) = (b ∷ l) ∷ ls
+
+unfoldable pub linesOf : List ℕ → List (List ℕ)
+linesOf [] = []
+linesOf (b ∷ bs) = cond (eqb b 10) ([] ∷ linesOf bs) (intoFirst b (linesOf bs))
+
+-- the totals of a log
+unfoldable pub totalsFrom : Sizes → List ℕ → Totals → List (List ℕ) → Totals
+totalsFrom S cells t [] = t
+totalsFrom S cells t (l ∷ ls) = totalsFrom S cells (lineTotals S cells t l) ls
+
+abbrev pub nothingYet : Totals
+nothingYet = record { lines = 0; granted = 0; pathless = 0; refused = 0; unread = 0 }
+
+abbrev pub totalsOf : Sizes → List ℕ → List ℕ → Totals
+totalsOf S cells log = totalsFrom S cells nothingYet (linesOf log)
+
+-- "It ends with totals."
+abbrev pub grantedTotals : Totals → List ℕ
+grantedTotals t = (ascii "totals: lines " ++ decimal (t .lines)) ++ (ascii ", granted " ++ decimal (t .granted))
+
+abbrev pub refusedTotals : Totals → List ℕ
+refusedTotals t = (ascii ", refused for no path " ++ decimal (t .pathless)) ++ (ascii ", refused otherwise " ++ decimal (t .refused))
+
+unfoldable pub totalsText : Totals → List ℕ
+totalsText t = grantedTotals t ++ refusedTotals t ++ (ascii ", no pair of numbers " ++ decimal (t .unread)) ++ ascii "\n"
+
+-- no total is above n
+pub record Few (t : Totals) (n : ℕ) : Type 0 where
+  pub lines-le : t .lines ≤ n
+  pub granted-le : t .granted ≤ n
+  pub pathless-le : t .pathless ≤ n
+  pub refused-le : t .refused ≤ n
+  pub unread-le : t .unread ≤ n
