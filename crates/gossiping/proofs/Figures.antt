@@ -7,7 +7,7 @@ use native.Mathlib.Omega.{arith}
 use lib.Dec.{eqb}
 use Rattle.mesh.specs.Tools.{bit, sum, count}
 use Rattle.mesh.specs.Mesh.{nodes}
-use Rattle.mesh.specs.Cells.{Map, mapOf}
+use Rattle.mesh.specs.Cells.{mapOf}
 use Rattle.mesh.specs.Marks.{has}
 use Rattle.mesh.specs.Answers.{checkMap}
 use Rattle.mesh.specs.declared.Sizes.{Sizes}
