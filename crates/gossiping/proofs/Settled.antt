@@ -25,6 +25,7 @@ use Rattle.gossiping.specs.Links.{links, net}
 use Rattle.gossiping.specs.Rounds.{lossyRound, fullRound, lossyRounds, oneRound, afterRounds}
 use Rattle.gossiping.specs.Figures.{outstandingAfter, settledFrom, longest, settledAt}
 use Rattle.gossiping.specs.Promise.{TalkPromise}
+use Rattle.gossiping.proofs.Figures.{marks-ruled}
 use Rattle.gossiping.proofs.Soon.{soon-settled}
 use Rattle.gossiping.proofs.Full.{calls, round-leads, round-full}
 use Rattle.gossiping.proofs.Led.{later}
@@ -107,11 +108,13 @@ module _ (m : Map) (o : ℕ) where
     talk-promise =
         let z : longest S ≡ 0 + longest S = omega arith in
         let f = found (longest S) 0 (subst (λ (k : ℕ). outstandingAfter m o k ≡ 0) z last-settled) in
+        let done = exact (settledAt m o) ∙ ap Number (f .none-left) in
         record {
           later = later m o;
           full = full;
           exact = exact;
-          settled = exact (settledAt m o) ∙ ap Number (f .none-left);
+          settled = done;
           first = λ r h. f .before r (omega arith) h;
           soon = omega (arith, f .within);
+          marks = marks-ruled m o (at (settledAt m o)) (promised .settled (at (settledAt m o)) (later m o (settledAt m o)) done);
         }
