@@ -1,28 +1,31 @@
 -- What is counted is what is told. Assumes nothing.
-use mathlib.Core.Path.{_≡_, refl, sym, ap, _∙_}
+use mathlib.Core.Path.{_≡_, refl, sym, ap, ap₂, _∙_}
 use mathlib.Core.Bool.{Bool, true, false, not}
 use mathlib.Core.List.{List}
 use Prim.Native.Nat.{ℕ, zero, suc, _+_, _/_, _%_, _<_}
 use native.Mathlib.Omega.{arith}
 use lib.Dec.{eqb}
 use Rattle.mesh.specs.Tools.{bit, sum, count}
-use Rattle.mesh.specs.Mesh.{nodes}
+use Rattle.mesh.specs.Mesh.{nodes, placeOf}
 use Rattle.mesh.specs.Cells.{Map, mapOf}
-use Rattle.mesh.specs.Marks.{has}
+use Rattle.mesh.specs.Marks.{Kind, useless, cantReach, has, holds, markAt}
 use Rattle.mesh.specs.Answers.{checkMap}
 use Rattle.mesh.specs.declared.Sizes.{Sizes}
 use Rattle.mesh.specs.declared.Answer.the-variants.{Done}
 use Rattle.mesh.specs.declared.Numbered.the-variants.{Number, NotNumbered}
 use Rattle.mesh.specs.declared.Refusal.{Refusal}
-use Rattle.field.specs.State.{mapIn, faultyNode}
+use Rattle.mesh.proofs.Tables.{sum-same}
+use Rattle.mesh.proofs.Numbers.{place-in}
+use Rattle.mesh.proofs.Bytes.{mark-has}
+use Rattle.field.specs.State.{own, mapIn, faultyNode}
 use Rattle.field.specs.Hear.{outstanding}
 use Rattle.field.specs.Entries.{outstandingAnswer}
 use Rattle.field.specs.Promise.{workers}
 use Rattle.field.proofs.Calls.{counts}
-use Rattle.report.specs.Counts.{faultyCount, faultyAmong}
+use Rattle.report.specs.Counts.{faultyCount, markedCount, faultyAmong}
 use Rattle.report.proofs.Counted.{faulty-counted}
 use Rattle.gossiping.specs.Links.{Fit}
-use Rattle.gossiping.specs.Figures.{marksIn}
+use Rattle.gossiping.specs.Figures.{marksIn, marksHeld}
 use Rattle.gossiping.proofs.Coming.{ranged}
 
 -- what passes a test and what does not are all
@@ -62,3 +65,21 @@ bit-of (suc (suc n)) h = absurd (omega arith)
 pub marks-counted : (b : ℕ) → b / 2 % 2 + b / 4 % 2 ≡ marksIn b
 unfolding has
 marks-counted b = omega (arith, bit-of (b / 2 % 2) (omega arith), bit-of (b / 4 % 2) (omega arith))
+
+-- two counts at once
+both : (n : ℕ) (f g : ℕ → ℕ) → sum n (λ k. f k + g k) ≡ sum n f + sum n g
+unfolding sum
+both zero f g = refl
+both (suc n) f g = omega (arith, both n f g)
+
+-- a state that holds the mark bytes of the rules holds as many marks as the report counts
+pub marks-ruled : (m : Map) (o : ℕ) (s : List ℕ) → ((k : ℕ) → k < nodes (m .sizes) → own s k ≡ markAt m o (placeOf (m .sizes) k))
+    → marksHeld (m .sizes) s ≡ markedCount m o useless + markedCount m o cantReach
+unfolding marksHeld markedCount
+marks-ruled m o s e =
+    let N = nodes (m .sizes) in
+    let held : Kind → ℕ → ℕ = λ a k. bit (holds m o (placeOf (m .sizes) k) a) in
+    let one : (a : Kind) (k : ℕ) → k < N → bit (has (own s k) a) ≡ held a k = λ a k h.
+    ap (λ (b : ℕ). bit (has b a)) (e k h) ∙ ap bit (mark-has m o (placeOf (m .sizes) k) a (place-in (m .sizes) k h)) in
+    sum-same N (λ k. marksIn (own s k)) (λ k. held useless k + held cantReach k) (λ k h. ap₂ _+_ (one useless k h) (one cantReach k h))
+    ∙ both N (held useless) (held cantReach)

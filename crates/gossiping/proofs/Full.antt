@@ -1,6 +1,6 @@
 -- The rounds without loss are full rounds in 01's sense, and the state at any time is what calls on the fresh one lead to: so the promise
 -- of the talking nodes is about it. Assumes nothing.
-use mathlib.Core.Path.{_≡_, refl, sym, ap, _∙_, subst}
+use mathlib.Core.Path.{_≡_, refl, sym, ap, _∙_}
 use mathlib.Core.List.{List, [], _∷_, _++_, append-assoc, append-nil}
 use Prim.Native.Nat.{ℕ, zero, suc, _+_, _-_, _*_, _/_, _%_, _<_}
 use native.Mathlib.Nat.{add-zero}
@@ -9,9 +9,8 @@ use lib.Dec.{T}
 use Rattle.mesh.specs.Mesh.{nodes}
 use Rattle.mesh.specs.Cells.{Map}
 use Rattle.mesh.specs.declared.Sizes.{Sizes}
-use Rattle.field.specs.State.{pair, says}
 use Rattle.mesh.proofs.Tests.{T-and}
-use Rattle.field.specs.Rounds.{Call, hearing, run, held, keeps, stretch, Told, FullRound}
+use Rattle.field.specs.Rounds.{Call, hearing, run, keeps, stretch, Told, FullRound}
 use Rattle.field.proofs.State.{pair-talks, dir-lt-six}
 use Rattle.field.proofs.Later.{run-append}
 use Rattle.gossiping.specs.Links.{links, saying}

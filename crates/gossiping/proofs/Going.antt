@@ -6,7 +6,7 @@ use native.Mathlib.Omega.{arith}
 use lib.ListN.{length, length-set, getD}
 use Rattle.mesh.specs.declared.Sizes.{Sizes}
 use Rattle.gossiping.specs.Chance.{following, chosen, Fate, lost, late, twice, once, fateOf}
-use Rattle.gossiping.specs.Links.{links, Net, net, saying, comes, stateBy, wayBy, visit, Fit, Going}
+use Rattle.gossiping.specs.Links.{links, Net, saying, comes, stateBy, wayBy, visit, Fit, Going}
 use Rattle.gossiping.specs.Rounds.{met, visits, tells}
 use Rattle.gossiping.proofs.Coming.{hear-fit}
 

@@ -1,20 +1,20 @@
 -- The state at any time is what calls on the fresh one lead to, and a sound state of the map. Assumes nothing.
-use mathlib.Core.Path.{_≡_, refl, sym, ap, _∙_}
+use mathlib.Core.Path.{refl, sym, ap, _∙_}
 use mathlib.Core.Bool.{Bool, true, false, cond}
 use mathlib.Core.List.{List, [], _∷_, _++_}
-use Prim.Native.Nat.{ℕ, zero, suc, _+_, _/_, _%_, _<_, _≤_}
+use Prim.Native.Nat.{ℕ, zero, suc, _+_, _/_, _%_, _≤_}
 use native.Mathlib.Omega.{arith}
-use lib.Dec.{T, ltb}
-use lib.ListN.{length, length-replicate, getD}
-use Rattle.mesh.specs.Mesh.{InRange, inRange}
+use lib.Dec.{ltb}
+use lib.ListN.{length-replicate, getD}
+use Rattle.mesh.specs.Mesh.{InRange}
 use Rattle.mesh.specs.Cells.{Map}
 use Rattle.mesh.specs.declared.Sizes.{Sizes}
-use Rattle.field.specs.Sound.{SoundOn, fresh}
+use Rattle.field.specs.Sound.{fresh}
 use Rattle.field.specs.Rounds.{hearing, run, Later}
 use Rattle.field.proofs.Later.{run-append}
 use Rattle.field.proofs.Fresh.{fresh-promise}
 use Rattle.gossiping.specs.Chance.{following, chosen, Fate, lost, late, twice, once, fateOf}
-use Rattle.gossiping.specs.Links.{links, Net, net, saying, comes, stateBy, visit, Fit, Going}
+use Rattle.gossiping.specs.Links.{links, Net, net, saying, comes, stateBy, visit, Going}
 use Rattle.gossiping.specs.Rounds.{strides, met, visits, lossyRound, fullRound, lossyRounds, oneRound, afterRounds}
 use Rattle.gossiping.proofs.Going.{following-small, visits-going, tells-fit}
 use Rattle.gossiping.proofs.Full.{joined, calls, calls-kept, round-leads}

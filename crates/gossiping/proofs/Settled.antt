@@ -1,13 +1,13 @@
 -- The nodes settle, and the round in which they do is the one that is printed last. Assumes nothing.
 use mathlib.Core.Path.{_≡_, refl, sym, ap, _∙_, subst}
-use mathlib.Core.Logic.{_≢_, inl, inr}
+use mathlib.Core.Logic.{_≢_}
 use mathlib.Core.Bool.{Bool, cond}
 use mathlib.Core.List.{List}
 use Prim.Native.Nat.{ℕ, zero, suc, _+_, _<_, _≤_}
 use native.Mathlib.Decide.{ℕ-discrete}
 use native.Mathlib.Omega.{arith}
 use borrow.Author.Tests.{le-ltb, eq-eqb, ne-eqb}
-use lib.Dec.{T, eqb}
+use lib.Dec.{T}
 use Rattle.mesh.specs.Mesh.{InRange, inRange}
 use Rattle.mesh.specs.Cells.{Map}
 use Rattle.mesh.specs.declared.Sizes.{Sizes}
@@ -25,6 +25,7 @@ use Rattle.gossiping.specs.Links.{links, net}
 use Rattle.gossiping.specs.Rounds.{lossyRound, fullRound, lossyRounds, oneRound, afterRounds}
 use Rattle.gossiping.specs.Figures.{outstandingAfter, settledFrom, longest, settledAt}
 use Rattle.gossiping.specs.Promise.{TalkPromise}
+use Rattle.gossiping.proofs.Figures.{marks-ruled}
 use Rattle.gossiping.proofs.Soon.{soon-settled}
 use Rattle.gossiping.proofs.Full.{calls, round-leads, round-full}
 use Rattle.gossiping.proofs.Led.{later}
@@ -40,7 +41,9 @@ module _ (m : Map) (o : ℕ) where
 
   full-step : (r : ℕ) → lossyRounds ≤ r → at (suc r) ≡ fullRound S o (at r)
   unfolding afterRounds oneRound
-  full-step r h = ap (λ (b : Bool). cond b (lossyRound S o (afterRounds m o r)) (net (fullRound S o (at r)) (afterRounds m o r .way) (afterRounds m o r .drawn)) .state) (le-ltb r lossyRounds h)
+  full-step r h =
+      let n = afterRounds m o r in
+      ap (λ (b : Bool). cond b (lossyRound S o n) (net (fullRound S o (n .state)) (n .way) (n .drawn)) .state) (le-ltb r lossyRounds h)
 
   full : (n r : ℕ) → lossyRounds ≤ r → FullRounds m o (at (r + n)) n (at r)
   full zero r h = let e : r ≡ r + 0 = omega arith in subst (λ (k : ℕ). FullRounds m o (at k) 0 (at r)) e none
@@ -105,11 +108,13 @@ module _ (m : Map) (o : ℕ) where
     talk-promise =
         let z : longest S ≡ 0 + longest S = omega arith in
         let f = found (longest S) 0 (subst (λ (k : ℕ). outstandingAfter m o k ≡ 0) z last-settled) in
+        let done = exact (settledAt m o) ∙ ap Number (f .none-left) in
         record {
           later = later m o;
           full = full;
           exact = exact;
-          settled = exact (settledAt m o) ∙ ap Number (f .none-left);
+          settled = done;
           first = λ r h. f .before r (omega arith) h;
           soon = omega (arith, f .within);
+          marks = marks-ruled m o (at (settledAt m o)) (promised .settled (at (settledAt m o)) (later m o (settledAt m o)) done);
         }

@@ -1,29 +1,28 @@
 -- W + H + D full rounds settle: each brings what shows a mark one step nearer, and no mark is shown by more steps ahead than that.
 -- Assumes nothing.
-use mathlib.Core.Path.{_≡_, refl, sym, _∙_, subst}
+use mathlib.Core.Path.{_≡_, subst}
 use mathlib.Core.Logic.{inl, inr}
-use mathlib.Core.Bool.{not}
 use mathlib.Core.List.{List}
-use Prim.Native.Nat.{ℕ, zero, suc, _+_, _<_, _≤_}
+use Prim.Native.Nat.{ℕ, suc, _+_, _<_, _≤_}
 use native.Mathlib.Omega.{arith}
 use lib.Dec.{T, eqb}
-use Rattle.mesh.specs.Mesh.{Axis, inRange, nodes, placeOf}
+use Rattle.mesh.specs.Mesh.{inRange, nodes, placeOf}
 use Rattle.mesh.specs.Steps.{next, ahead, neighbour}
 use Rattle.mesh.specs.Cells.{Map, wall}
-use Rattle.mesh.specs.Marks.{Kind, heading, has, rule, blocks, counted, stuckWithin, stuck, byteBlocks, ruleByte}
+use Rattle.mesh.specs.Marks.{Kind, heading, has, rule, blocks, stuckWithin, stuck, byteBlocks, ruleByte}
 use Rattle.mesh.specs.declared.Sizes.{Sizes}
 use Rattle.mesh.specs.declared.Place.{Place}
 use Rattle.mesh.specs.declared.Next.the-variants.{At}
 use Rattle.mesh.proofs.Tests.{T-or, tried, holds-true}
-use Rattle.mesh.proofs.Numbers.{place-in, place-of}
+use Rattle.mesh.proofs.Numbers.{place-of}
 use Rattle.mesh.proofs.Rule.{rule-iff, blocks-read, marked-iff}
 use Rattle.mesh.proofs.Bytes.{has-byte, one-blocks}
-use Rattle.field.specs.State.{own, heard, worksNode, pair, says}
-use Rattle.field.specs.Sound.{_noMoreThan_, SoundOn}
+use Rattle.field.specs.State.{own, heard, worksNode, pair}
+use Rattle.field.specs.Sound.{SoundOn}
 use Rattle.field.specs.Hear.{outstandingOn}
 use Rattle.field.specs.Rounds.{Call, run, FullRound, FullRounds, none, more}
 use Rattle.field.proofs.State.{Talks, pair-talks, talks-pair, speaker-in, speaker-is, speaker-lt}
-use Rattle.field.proofs.Later.{Grown, run-grown, round-hears}
+use Rattle.field.proofs.Later.{run-grown, round-hears}
 use Rattle.field.proofs.Exact.{no-more}
 use Rattle.field.proofs.Rounds.{all-heard, rounds-grown}
 

@@ -1,12 +1,12 @@
 -- What a visit and a round with loss leave, by the numbers drawn. Assumes nothing.
-use mathlib.Core.Path.{_≡_, ap, _∙_}
+use mathlib.Core.Path.{_≡_}
 use Prim.Native.Nat.{ℕ, _<_, _≤_}
 use native.Mathlib.Omega.{arith}
 use borrow.Author.Tests.{lt-ltb, le-ltb}
 use lib.ListN.{getD}
 use Rattle.mesh.specs.declared.Sizes.{Sizes}
 use Rattle.gossiping.specs.Chance.{following, chosen, Fate, lost, late, twice, once, fateOf}
-use Rattle.gossiping.specs.Links.{links, Net, net, stateBy, wayBy, drawBy, visit}
+use Rattle.gossiping.specs.Links.{links, Net, net, stateBy, wayBy, visit}
 use Rattle.gossiping.specs.Rounds.{strides, visits, lossyRound}
 
 pub is-lost : (c : ℕ) → c < 2 → fateOf c ≡ lost

@@ -3,13 +3,15 @@ use mathlib.Core.Logic.{_≢_}
 use mathlib.Core.Path.{_≡_}
 use Prim.Native.Nat.{ℕ, _+_, _<_, _≤_}
 use Rattle.mesh.specs.Cells.{Map}
+use Rattle.mesh.specs.Marks.{useless, cantReach}
 use Rattle.mesh.specs.declared.Numbered.the-variants.{Number}
 use Rattle.field.specs.Sound.{fresh}
 use Rattle.field.specs.Entries.{outstandingAnswer}
 use Rattle.field.specs.Rounds.{Later, FullRounds}
 use Rattle.field.specs.Promise.{Settled}
+use Rattle.report.specs.Counts.{markedCount}
 use Rattle.gossiping.specs.Rounds.{lossyRounds, afterRounds}
-use Rattle.gossiping.specs.Figures.{outstandingAfter, longest, settledAt}
+use Rattle.gossiping.specs.Figures.{outstandingAfter, marksAfter, longest, settledAt}
 
 pub record TalkPromise (m : Map) (o : ℕ) : Type 0 where
   -- whatever becomes of the words, the state after r rounds is one that calls on the fresh state lead to: so `Promise` is about it;
@@ -22,3 +24,5 @@ pub record TalkPromise (m : Map) (o : ℕ) : Type 0 where
   pub settled : Settled m o (afterRounds m o (settledAt m o) .state)
   pub first : (r : ℕ) → r < settledAt m o → outstandingAfter m o r ≢ 0
   pub soon : settledAt m o ≤ longest (m .sizes)
+  -- the marks then held are those of the rules: the two figures of the report, added
+  pub marks : marksAfter m o (settledAt m o) ≡ markedCount m o useless + markedCount m o cantReach

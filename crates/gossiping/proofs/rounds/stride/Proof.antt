@@ -1,8 +1,7 @@
 -- `gossiping::rounds::stride` meets its contract: each of the four strides is small. Assumes nothing.
 use mathlib.Core.Path.{ap}
 use Prim.Native.Nat.{ℕ, _<_, _≤_}
-use native.Mathlib.Omega.{arith}
-use lib.Dec.{T, leb}
+use lib.Dec.{leb}
 use lib.ListN.{getD}
 use Rattle.mesh.specs.Tools.{all}
 use Rattle.mesh.proofs.Tests.{T-all, T-le}

@@ -47,8 +47,7 @@ loop-holds c =
 tell-round-requires : tie.Need-tell-round-requires Inv-loop μ-loop
 tell-round-requires c κs =
     let l = c .before .before in (
-      turn-going (m l) (start l .args .o) (start l .args .at) (now (start l .args .out)) (sized l) (start l .pre .1) (l .loop .state) (l .loop .way) (l .loop .out)
-          (l .loop .drawn) (l .loop .r) (l .loop .next) (l .loop .inv .3) .fit,
+      turn-going (sized l) (start l .pre .1) (l .loop .inv .3) .fit,
       omega (arith, fits l, l .loop .inv .2, l .loop .inv .3 .room),
     )
 
@@ -66,10 +65,8 @@ returns c =
     let told = c .before .before .before .before in
     let l = told .before .before .before in
     let (n, line, room) = told .tell-round .ensures in
-    let e = turn-last (m l) (start l .args .o) (start l .args .at) (now (start l .args .out)) (sized l) (start l .pre .1) (l .loop .state) (l .loop .way) (l .loop .out)
-    (l .loop .drawn) (l .loop .r) (l .loop .next) (l .loop .inv .3) (sym n ∙ c .if1 .taken) in
-    let text = turn-told (m l) (start l .args .o) (start l .args .at) (now (start l .args .out)) (sized l) (start l .pre .1) (l .loop .state) (l .loop .way) (l .loop .out)
-    (l .loop .drawn) (l .loop .r) (l .loop .next) (l .loop .inv .3) (told .tell-round .last .1 .1 .1 .1 .0) (told .tell-round .result .next) (omega (arith, fits l)) line in (
+    let e = turn-last (sized l) (start l .pre .1) (l .loop .inv .3) (sym n ∙ c .if1 .taken) in
+    let text = turn-told (sized l) (start l .pre .1) (l .loop .inv .3) (told .tell-round .last .1 .1 .1 .1 .0) (told .tell-round .result .next) (omega (arith, fits l)) line in (
       e,
       said-as (ap (λ (k : ℕ). roundLines (m l) (start l .args .o) (suc k)) e) text,
       omega (arith, room, l .loop .inv .3 .room, l .loop .inv .3 .few, sized l .w-hi, sized l .h-hi, sized l .d-hi),
@@ -78,8 +75,7 @@ returns c =
 one-round-requires : tie.Need-one-round-requires Inv-loop μ-loop
 one-round-requires c κs =
     let l = c .before .before .before .before .before .before .before .before .before in
-    turn-going (m l) (start l .args .o) (start l .args .at) (now (start l .args .out)) (sized l) (start l .pre .1) (l .loop .state) (l .loop .way) (l .loop .out)
-    (l .loop .drawn) (l .loop .r) (l .loop .next) (l .loop .inv .3)
+    turn-going (sized l) (start l .pre .1) (l .loop .inv .3)
 
 add-r : tie.Need-add-r Inv-loop μ-loop
 add-r c =
@@ -93,8 +89,7 @@ loop-less c =
     let l = told .before .before .before in
     omega (
       arith,
-      turn-more (m l) (start l .args .o) (start l .args .at) (now (start l .args .out)) (sized l) (start l .pre .1) (l .loop .state) (l .loop .way) (l .loop .out)
-          (l .loop .drawn) (l .loop .r) (l .loop .next) (l .loop .inv .3) λ z. e .if1 .left (told .tell-round .ensures .0 ∙ z),
+      turn-more (sized l) (start l .pre .1) (l .loop .inv .3) λ z. e .if1 .left (told .tell-round .ensures .0 ∙ z),
     )
 
 loop-again : tie.Need-loop-again Inv-loop μ-loop
@@ -107,8 +102,7 @@ loop-again c =
       one .one-round .kept .1 .1 .1 .0 ∙ l .loop .inv .0,
       one .one-round .kept .1 .1 .1 .1 .0 ∙ l .loop .inv .1,
       told .tell-round .kept .1 .1 .1 .1 .0 ∙ l .loop .inv .2,
-      turn-next (m l) (start l .args .o) (start l .args .at) (now (start l .args .out)) (sized l) (start l .pre .1) (l .loop .state) (l .loop .way) (l .loop .out)
-          (l .loop .drawn) (l .loop .r) (l .loop .next) (l .loop .inv .3) (one .one-round .last .1 .1 .1 .0) (one .one-round .last .1 .1 .1 .1 .0)
+      turn-next (sized l) (start l .pre .1) (l .loop .inv .3) (one .one-round .last .1 .1 .1 .0) (one .one-round .last .1 .1 .1 .1 .0)
           (told .tell-round .last .1 .1 .1 .1 .0) (one .one-round .result) (told .tell-round .result .next)
           (λ z. e .if1 .left (n ∙ z)) (one .one-round .ensures) (omega (arith, fits l)) line room,
     )

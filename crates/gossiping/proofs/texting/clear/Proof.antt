@@ -45,7 +45,10 @@ returns c =
     let l = c .before in
     let way = now (l .before .args .way) in
     let e : l .loop .link ≡ length way = omega arith in
-    l .loop .inv .2 ∙ ap (λ (n : ℕ). replicate n 0 ++ drop n way) e ∙ ap (λ (w : List ℕ). replicate (length way) 0 ++ w) (drop-length way) ∙ append-nil (replicate (length way) 0)
+    l .loop .inv .2
+    ∙ ap (λ (n : ℕ). replicate n 0 ++ drop n way) e
+    ∙ ap (λ (w : List ℕ). replicate (length way) 0 ++ w) (drop-length way)
+    ∙ append-nil (replicate (length way) 0)
 
 pub clear-spec : {M : Type 1} → statement M
 clear-spec =
