@@ -153,6 +153,16 @@ fn the_maps() {
     for name in ["p", "sample10", "sample12", "case11", "large"] {
         assert!(file(&format!("maps/{name}.map")) == file(&format!("crates/meshreports/data/{name}.map")), "{name}");
     }
-    assert!(file("maps/p.map") == file("crates/meshreport/stdin"));
-    assert!(file("maps/sample12.map") == file("crates/samplerun/stdin"));
+    for (map, run) in [
+        ("p.map", "meshreport/stdin"),
+        ("p.map", "gossip/stdin"),
+        ("sample12.map", "samplerun/stdin"),
+        ("p.map", "meshaudit/data/p.map"),
+        ("quarter.log", "meshaudit/data/quarter.log"),
+        ("deep.map", "meshaudit/data/deep.map"),
+        ("deep.log", "meshaudit/data/deep.log"),
+        ("corridor.map", "gossips/data/corridor.map"),
+    ] {
+        assert!(file(&format!("maps/{map}")) == file(&format!("crates/{run}")), "{map}: {run}");
+    }
 }
