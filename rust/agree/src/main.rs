@@ -4,10 +4,12 @@
 //!     agree [plain] PROGRAM [WORD..]    the calls as the C program rust/c/serve.c makes them, started by these words
 //!     agree [plain]                     without them
 //!     agree reports PROGRAM [WORD..]    the report's text, as a program prints it that is started by these words and names of files
+//!     agree audits PROGRAM [WORD..]     likewise the auditor's page, for pairs of a map file and a log
 //!
 //! The calls as the Rust wrapper makes them are compared beside them, where there is an archive for this machine. With `plain` the plain Rust
 //! program, the yardstick for speed, is compared too.
 
+mod audits;
 mod call;
 mod comparison;
 mod field;
@@ -17,6 +19,7 @@ mod library;
 mod maps;
 mod marks;
 mod places;
+mod programs;
 mod random;
 mod reports;
 mod request;
@@ -72,6 +75,9 @@ fn main() {
     let mut words: Vec<String> = std::env::args().skip(1).collect();
     if words.len() > 1 && words[0] == "reports" {
         return reports::compare(&words[1..]);
+    }
+    if words.len() > 1 && words[0] == "audits" {
+        return audits::compare(&words[1..]);
     }
     let plain = words.first().map_or(false, |word| word == "plain");
     if plain {

@@ -1,18 +1,15 @@
 //! The report's text: a program that prints the report on each file that it is given, under the file's name, is held to the search program's
 //! text, on good files of every kind and on damaged ones.
 use crate::files::file;
-use crate::library::stop;
 use crate::maps::{self, nodes};
+use crate::programs::{self, Kinds};
 use crate::random::Random;
-use std::collections::BTreeMap;
-use std::path::Path;
-use std::process::Command;
 
 const FILES: usize = 3_200;
 const AT_ONCE: usize = 200;
 
 /// A map file; or one that is damaged, cut, too long, or no map file at all.
-fn any_file(r: &mut Random) -> Vec<u8> {
+pub fn any_file(r: &mut Random) -> Vec<u8> {
     let size = if r.percent(3) { maps::any_size(r) } else { maps::size(r) };
     let mut cells = maps::cells(r, size);
     if r.percent(8) {
@@ -39,43 +36,25 @@ fn any_file(r: &mut Random) -> Vec<u8> {
     bytes
 }
 
-/// Runs the program in a folder of its own.
-fn compare_in(folder: &Path, words: &[String]) -> std::io::Result<BTreeMap<String, usize>> {
-    let mut r = Random::new(10_000);
-    let mut agreed = BTreeMap::new();
-    for first in (0..FILES).step_by(AT_ONCE) {
-        let mut names = Vec::new();
-        let mut text = String::new();
-        for i in first..first + AT_ONCE {
-            let bytes = any_file(&mut r);
-            let name = format!("{i}.map");
-            std::fs::write(folder.join(&name), &bytes)?;
-            let report = oracle::report::report(&bytes);
-            text += &format!("{name}\n{report}");
-            names.push(name);
-            let kind = if report.starts_with("refused") { report.trim().to_string() } else { "granted".to_string() };
-            *agreed.entry(kind).or_insert(0) += 1;
-        }
-        let done = Command::new(&words[0]).args(&words[1..]).args(&names).current_dir(folder).output()?;
-        let printed = String::from_utf8_lossy(&done.stdout);
-        if !done.status.success() || printed != text {
-            let line = printed.lines().zip(text.lines()).position(|(a, b)| a != b).unwrap_or(0);
-            let (a, b) = (printed.lines().nth(line), text.lines().nth(line));
-            stop(&format!("DISAGREE: the report, {}: line {line} is {a:?}, searched {b:?}, {}", names[0], done.status));
-        }
-    }
-    Ok(agreed)
-}
-
 pub fn compare(words: &[String]) {
-    let folder = std::env::temp_dir().join(format!("dukthari-reports-{}", std::process::id()));
-    let compared = std::fs::create_dir(&folder).and_then(|()| compare_in(&folder, words));
-    let _ = std::fs::remove_dir_all(&folder);
-    let agreed = compared.unwrap_or_else(|e| stop(&format!("the report cannot be compared: {e}")));
-    let kinds = ["granted", "refused 1", "refused 4", "refused 11"];
-    if agreed.len() != kinds.len() || kinds.iter().any(|kind| agreed.get(*kind).copied().unwrap_or(0) < 30) {
-        stop(&format!("TOO LITTLE ASKED: the report: {agreed:?}"));
-    }
-    let counts: Vec<String> = agreed.iter().map(|(kind, count)| format!("{kind}: {count}")).collect();
-    println!("the report: {FILES} files agreed; {}", counts.join("; "));
+    programs::compare("files of the report", &["granted", "refused 1", "refused 4", "refused 11"], |folder| {
+        let mut r = Random::new(10_000);
+        let mut agreed = Kinds::new();
+        for first in (0..FILES).step_by(AT_ONCE) {
+            let mut names = Vec::new();
+            let mut text = String::new();
+            for i in first..first + AT_ONCE {
+                let bytes = any_file(&mut r);
+                let name = format!("{i}.map");
+                std::fs::write(folder.join(&name), &bytes)?;
+                let report = oracle::report::report(&bytes);
+                text += &format!("{name}\n{report}");
+                names.push(name);
+                let kind = if report.starts_with("refused") { report.trim() } else { "granted" };
+                *agreed.entry(kind.to_string()).or_insert(0) += 1;
+            }
+            programs::hold("the report", folder, words, &names, &text)?;
+        }
+        Ok(agreed)
+    });
 }

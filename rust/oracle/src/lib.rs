@@ -3,6 +3,7 @@
 //!
 //! Each call takes what the C call takes, changes what is lent to it, and returns the fields of the answer.
 
+pub mod audit;
 pub mod components;
 pub mod field;
 pub mod listing;

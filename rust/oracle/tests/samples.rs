@@ -146,6 +146,16 @@ octant 3 useless 1 cannot-reach 1 components 1
     assert_eq!(report(&file), "refused 11\n");
 }
 
+/// The page for the auditor on cases 3 to 9, and on a deep map.
+#[test]
+fn the_audit() {
+    let page = |map: &[u8], log: &[u8]| oracle::audit::audit(map, log);
+    let printed = include_str!("../../../crates/meshaudit/stdout");
+    let quarter = page(include_bytes!("../../../maps/p.map"), include_bytes!("../../../maps/quarter.log"));
+    let deep = page(include_bytes!("../../../maps/deep.map"), include_bytes!("../../../maps/deep.log"));
+    assert!(printed.starts_with(&format!("log quarter.log\nmap p.map\n{quarter}log deep.log\nmap deep.map\n{deep}")));
+}
+
 /// The maps for people are those that the proved programs are run on.
 #[test]
 fn the_maps() {
