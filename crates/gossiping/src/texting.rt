@@ -11,6 +11,7 @@ use mesh::Sizes;
 use report::counting::count_faulty;
 use report::figuring::blank_cells;
 use report::lines::first_line;
+use report::reporting::orientations;
 use report::reporting::report;
 ghost use mathlib.Core.Path.{_≡_};
 ghost use Prim.Native.Nat.{_+_, _≤_};
@@ -52,13 +53,6 @@ fn octant_text(
     let begin = start_line(o, w, out, at);
     let e = talk(s, cells, o, state, way, out, begin);
     settled_line(e.rounds, 2 * w + 1, out, e.next)
-}
-
-// How many orientations there are.
-fn orientations(s: Sizes) -> usize
-    ensures { λ r. ⌜ (r ≡ orientations s) × (r ≤ 8) ⌝ }
-{
-    if s.d == 1 { 4 } else { 8 }
 }
 
 // The texts of all of them.

@@ -18,7 +18,7 @@ ghost use Rattle.text.specs.Text.{Said};
 ghost use Rattle.report.specs.Report.{orientations, octantLines, mapReport, report};
 
 // How many orientations have a line.
-fn orientations(s: Sizes) -> usize
+pub fn orientations(s: Sizes) -> usize
     ensures { λ r. ⌜ (r ≡ orientations s) × (r ≤ 8) ⌝ }
 {
     if s.d == 1 { 4 } else { 8 }

@@ -1,28 +1,13 @@
 -- `audit::running::audit` is safe and ends. Assumes nothing.
-use mathlib.Core.Path.{_≡_, sym, ap, _∙_, subst}
-use mathlib.Core.List.{List}
-use Prim.Native.Nat.{ℕ}
+use mathlib.Core.Path.{sym, ap, _∙_}
 use native.Mathlib.Omega.{arith}
 use borrow.Author.Needs.{needs}
 use denote.Ref.{now}
 use lib.Seq.{length-take-le}
-use Rattle.mesh.specs.Mesh.{InRange}
-use Rattle.mesh.specs.declared.Sizes.{Sizes}
-use Rattle.mesh.proofs.Answers.{map-granted}
-use Rattle.mapfile.specs.Format.{sizesIn, cellsIn}
-use Rattle.mapfile.specs.Entry.{readCheck, readAnswer}
-use Rattle.mapfile.specs.declared.MapRead.the-variants.{Read}
-use Rattle.mapfile.proofs.Refusals.{read-ordered}
-use Rattle.mapfile.proofs.Reading.{read-as}
+use Rattle.mapfile.specs.Entry.{readAnswer}
+use Rattle.mapfile.proofs.Read.{in-range}
 use Rattle.audit.proofs.running.audit.Statement.{statement}
 use Rattle.audit.proofs.running.audit.Tie as tie
-
--- what was read has sizes in range
-sized : (file : List ℕ) (S : Sizes) → readAnswer file 4096 ≡ Read S → InRange S
-unfolding readAnswer
-sized file S is =
-    let (checked, same) = read-as (readCheck file 4096) (sizesIn file) S .0 is in
-    subst (λ (Z : Sizes). InRange Z) same (map-granted (sizesIn file) (cellsIn file) (read-ordered file 4096 checked) .sized)
 
 blank-cells-requires : tie.Need-blank-cells-requires
 blank-cells-requires c κs = search needs
@@ -44,7 +29,7 @@ nodes-requires c κs =
     let read = c .before .before .before .before in
     let made = read .before .before .before in
     let file = now (made .before .before .before .args .map) in
-    sized file (c .before .s .given .0 .0)
+    in-range file 4096 (c .before .s .given .0 .0)
     (ap (readAnswer file) (made .blank-cells .ensures) ∙ sym (read .read-map .ensures .0) ∙ c .before .s .given .1)
 
 array-share-prefix-cells : tie.Need-array-share-prefix-cells

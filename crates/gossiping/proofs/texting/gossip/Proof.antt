@@ -14,7 +14,8 @@ use Rattle.mapfile.specs.Entry.{readAnswer}
 use Rattle.mapfile.specs.declared.MapRead.the-variants.{Read}
 use Rattle.text.proofs.Saying.{said-as}
 use Rattle.gossiping.specs.Text.{mapText}
-use Rattle.gossiping.proofs.Read.{in-order, in-front, map-told, refusal-told}
+use Rattle.mapfile.proofs.Read.{in-order, in-range, in-front}
+use Rattle.gossiping.proofs.Read.{map-told, refusal-told}
 use borrow.Author.Needs.{needs}
 use Rattle.gossiping.proofs.texting.gossip.Statement.{statement}
 use Rattle.gossiping.proofs.texting.gossip.Tie as tie
@@ -40,7 +41,7 @@ cells-are c =
     let file = now (made .before .before .before .args .file) in
     ap (λ (n : ℕ). take n (read .read-map .last .1 .0)) (c .nodes .ensures .0)
     ∙ ap (take (nodes (told .before .s .given .0 .0))) (read .read-map .ensures .1)
-    ∙ in-front file (told .before .s .given .0 .0) (answer-is told) (made .blank-cells .result) (made .blank-cells .ensures)
+    ∙ in-front file 4096 (told .before .s .given .0 .0) (answer-is told) (made .blank-cells .result) (made .blank-cells .ensures)
 
 blank-cells-requires : tie.Need-blank-cells-requires
 blank-cells-requires c κs = search needs
@@ -58,7 +59,7 @@ nodes-requires : tie.Need-nodes-requires
 nodes-requires c κs =
     let file = now (c .before .before .before .before .before .before .before .before .before .args .file) in
     let S = c .before .s .given .0 .0 in
-    map-granted S (cellsIn file) (in-order file S (answer-is c)) .sized
+    in-range file 4096 S (answer-is c)
 
 array-share-prefix-cells : tie.Need-array-share-prefix-cells
 array-share-prefix-cells c = search needs
@@ -68,7 +69,7 @@ slice-aggregate-map-text c =
     let told = c .before .before in
     let file = now (told .before .before .before .before .before .before .before .before .before .args .file) in
     let S = told .before .s .given .0 .0 in
-    c .before .nodes .ensures .0 ∙ sym (ap length (cells-are (c .before)) ∙ map-granted S (cellsIn file) (in-order file S (answer-is told)) .whole)
+    c .before .nodes .ensures .0 ∙ sym (ap length (cells-are (c .before)) ∙ map-granted S (cellsIn file) (in-order file 4096 S (answer-is told)) .whole)
 
 map-text-requires : tie.Need-map-text-requires
 map-text-requires c κs =
@@ -76,7 +77,7 @@ map-text-requires c κs =
     let told = n .before in
     let s = told .before .before .before .before .before .before .before .before .before in
     let S = told .before .s .given .0 .0 in
-    (ap (checkMap S) (cells-are n) ∙ in-order (now (s .args .file)) S (answer-is told), s .pre)
+    (ap (checkMap S) (cells-are n) ∙ in-order (now (s .args .file)) 4096 S (answer-is told), s .pre)
 
 enum-told : tie.Need-enum-told
 enum-told c = search needs
