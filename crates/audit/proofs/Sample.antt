@@ -1,7 +1,6 @@
 -- The definitions on samples, by computation. Assumes nothing.
 use mathlib.Core.Path.{_≡_, refl}
-use mathlib.Core.List.{List, [], _∷_, _++_}
-use Prim.Native.Nat.{ℕ}
+use mathlib.Core.List.{[], _∷_, _++_}
 use lib.ListN.{replicate}
 use Rattle.mesh.specs.Tools.{any, sum, table}
 use Rattle.mesh.specs.Mesh.{sizes, inRange}
@@ -17,7 +16,6 @@ use Rattle.audit.specs.Log.{blank, digit, readFrom, numberOf, entryOf}
 use Rattle.audit.specs.Words.{pieces, two, reason}
 use Rattle.audit.specs.Picture.{symbolOf, symbols, rowText, columnsText, layerText, placeText, wayText, waysText, endsText, picture}
 use Rattle.audit.specs.Audit.{refusedText, headText, transferText}
-use Rattle.audit.specs.declared.Entry.{Entry}
 use Rattle.audit.specs.declared.Entry.the-variants.{Nothing, Transfer, NoPair}
 
 -- what is a pair of numbers, what says nothing, and what is neither
