@@ -6,7 +6,7 @@ use mathlib.Core.List.{List, _++_}
 use Prim.Native.Nat.{ℕ, _+_, _≤_, _<_}
 use native.Mathlib.Omega.{arith}
 use borrow.Author.Tests.{le-leb}
-use lib.Dec.{T, ltb, eqb}
+use lib.Dec.{ltb, eqb}
 use lib.ListN.{length, getD, drop, List·getD-append}
 use Rattle.mesh.specs.Mesh.{inRange, nodes, placeOf}
 use Rattle.mesh.specs.Cells.{mapOf, cellAt, mayEnd, badCell, firstBad}
@@ -22,7 +22,6 @@ use Rattle.routes.specs.Differences.{hops}
 use Rattle.routes.specs.Paths.{leads}
 use Rattle.routes.specs.Offered.{offered, route}
 use Rattle.routes.specs.Entries.{judged, checkEnds, checkPath, verdictCheck, verdictAnswer, routeCheck, routeWritten, routeOut}
-use Rattle.routes.specs.declared.Verdict.{Verdict}
 use Rattle.routes.specs.declared.Verdict.the-variants.{Granted, NotGranted}
 use Rattle.routes.proofs.Differences.{hops-le}
 use Rattle.routes.proofs.Ends.{ends-granted}

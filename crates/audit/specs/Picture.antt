@@ -16,7 +16,7 @@ use Rattle.routes.specs.Box.{between, gone, reach, Held}
 use Rattle.routes.specs.declared.Run.{Run}
 use Rattle.routes.specs.declared.Between.{Between}
 use Rattle.text.specs.Text.{ascii, decimal}
-use Rattle.audit.specs.Words.{pieces, spaced, two}
+use Rattle.audit.specs.Words.{pieces, two}
 
 -- the symbol of node k: `S` the start s, `E` the end e, `o` reached, `.` not reached, `#` not usable
 unfoldable pub symbolOf : ℕ → ℕ → ℕ → ℕ → ℕ → ℕ

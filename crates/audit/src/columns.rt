@@ -2,7 +2,7 @@
 use crate::words::say_two;
 use routes::Run;
 use text::say;
-ghost use Prim.Native.Nat.{_+_, _≤_, _<_};
+ghost use Prim.Native.Nat.{_+_, _≤_};
 ghost use lib.ListN.{length};
 ghost use Rattle.routes.specs.Box.{gone, OnAxis};
 ghost use Rattle.text.specs.Text.{Said};

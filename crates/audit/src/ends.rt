@@ -8,7 +8,7 @@ ghost use mathlib.Core.Path.{_≡_};
 ghost use Prim.Native.Nat.{_+_, _≤_};
 ghost use lib.ListN.{length};
 ghost use Rattle.routes.specs.Box.{between};
-ghost use Rattle.text.specs.Text.{ascii, Said};
+ghost use Rattle.text.specs.Text.{Said};
 ghost use Rattle.audit.specs.Picture.{placeText, wayText, waysText, endsText};
 
 // A place.

@@ -9,7 +9,6 @@ use routes::entries::route;
 use text::say;
 use text::say_both;
 ghost use mathlib.Core.Path.{_≡_};
-ghost use mathlib.Core.List.{_++_};
 ghost use Prim.Native.Nat.{_+_, _≤_};
 ghost use lib.ListN.{length, getD};
 ghost use Rattle.mesh.specs.declared.Answer.the-variants.{Done};
@@ -21,7 +20,7 @@ ghost use Rattle.routes.specs.Entries.{verdictCheck, verdictAnswer};
 ghost use Rattle.routes.specs.declared.Verdict.the-variants.{NotGranted};
 ghost use Rattle.text.specs.Text.{Said};
 ghost use Rattle.audit.specs.Words.{pieces, spaced};
-ghost use Rattle.audit.specs.Audit.{grantedText, noPath, refusedText, verdictText, headText, transferText, noPairText};
+ghost use Rattle.audit.specs.Audit.{grantedText, noPath, refusedText, headText, transferText, noPairText};
 
 // Is it the refusal for want of a path?
 pub fn no_path(r: Refusal) -> bool

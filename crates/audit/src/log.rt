@@ -5,7 +5,7 @@ use crate::Stop;
 ghost use mathlib.Core.Path.{_≡_};
 ghost use Prim.Native.Nat.{_≤_};
 ghost use lib.ListN.{length};
-ghost use Rattle.audit.specs.Log.{blank, digit, stops, before, upTo, past, nextWord, readFrom, numberOf, entryOf};
+ghost use Rattle.audit.specs.Log.{blank, digit, stops, before, upTo, past, nextWord, numberOf, entryOf};
 
 // Does the byte part words?
 fn blank(b: u8) -> bool

@@ -1,6 +1,6 @@
 -- `audit::columns::say_each` meets its contract. Assumes nothing.
 use mathlib.Core.Path.{_≡_, ap}
-use Prim.Native.Nat.{ℕ, _+_, _-_, _≤_}
+use Prim.Native.Nat.{_+_, _-_, _≤_}
 use native.Mathlib.Omega.{arith}
 use Rattle.routes.specs.Box.{gone}
 use Rattle.routes.proofs.Box.{steps-lt, widen}

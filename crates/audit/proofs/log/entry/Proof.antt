@@ -2,8 +2,7 @@
 use mathlib.Core.Path.{_≡_, sym, ap, _∙_}
 use borrow.Author.Needs.{needs}
 use denote.Ref.{now}
-use lib.ListN.{length}
-use Rattle.audit.specs.Log.{upTo, past, nextWord, numberOf, pairOf, entryOf}
+use Rattle.audit.specs.Log.{upTo, past, numberOf, pairOf, entryOf}
 use Rattle.audit.specs.declared.Stop.the-variants.{Comment, Blank, Word}
 use Rattle.audit.proofs.Entries.{no-start, no-end, a-pair, says-nothing, says-more, says-pair}
 use Rattle.audit.proofs.log.entry.Statement.{statement}

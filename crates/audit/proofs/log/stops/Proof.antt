@@ -1,5 +1,5 @@
 -- `audit::log::stops` meets its contract, case by case. Assumes nothing.
-use mathlib.Core.Path.{sym, ap, _∙_}
+use mathlib.Core.Path.{ap}
 use mathlib.Core.Bool.{not}
 use borrow.Author.Needs.{needs}
 use Rattle.audit.proofs.log.stops.Statement.{statement}

@@ -1,6 +1,6 @@
 -- `audit::picture::layers` meets its contract. Assumes nothing.
 use mathlib.Core.Path.{_≡_}
-use Prim.Native.Nat.{ℕ, _+_, _-_, _≤_}
+use Prim.Native.Nat.{_+_, _-_, _≤_}
 use native.Mathlib.Omega.{arith}
 use Rattle.audit.specs.Picture.{layerText}
 use Rattle.audit.proofs.Drawing.{narrow}

@@ -1,5 +1,5 @@
 -- `audit::picture::picture` meets its contract: the symbols of the map, drawn over the box between its ends. Assumes nothing.
-use mathlib.Core.Path.{_≡_, sym, ap, _∙_, subst⁻¹}
+use mathlib.Core.Path.{_≡_, sym, ap, _∙_}
 use Prim.Native.Nat.{ℕ}
 use native.Mathlib.Omega.{arith}
 use borrow.Author.Needs.{needs}
@@ -9,7 +9,6 @@ use Rattle.mesh.specs.Mesh.{nodes, placeOf}
 use Rattle.mesh.specs.Cells.{mapOf}
 use Rattle.routes.specs.Box.{between, Held}
 use Rattle.routes.specs.Sweep.{Ends}
-use Rattle.routes.specs.declared.Between.{Between}
 use Rattle.routes.proofs.Box.{in-largest, held}
 use Rattle.routes.proofs.Ends.{ends-granted}
 use Rattle.text.proofs.Saying.{said-as}

@@ -1,13 +1,10 @@
 -- `audit::picture::row_symbols` meets its contract. Assumes nothing.
-use mathlib.Core.Path.{_≡_, refl, sym, ap, _∙_}
-use mathlib.Core.List.{List, [], _∷_, _++_}
-use Prim.Native.Nat.{ℕ, _+_, _-_, _*_, _≤_}
+use mathlib.Core.Path.{_≡_, ap}
+use mathlib.Core.List.{[], _∷_, _++_}
+use Prim.Native.Nat.{ℕ, _+_, _-_, _≤_}
 use native.Mathlib.Omega.{arith}
-use borrow.Author.Needs.{needs}
 use denote.Ref.{now}
-use lib.ListN.{length, getD}
-use Rattle.mesh.specs.Mesh.{place}
-use Rattle.routes.specs.Box.{Within}
+use lib.ListN.{getD}
 use Rattle.text.specs.Text.{ascii}
 use Rattle.text.proofs.Saying.{said-as}
 use Rattle.audit.specs.Picture.{symbolAt}
