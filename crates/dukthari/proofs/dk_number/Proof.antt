@@ -10,18 +10,6 @@ use Rattle.dukthari.specs.Answers.{nodeFields}
 use Rattle.dukthari.proofs.dk_number.Statement.{statement}
 use Rattle.dukthari.proofs.dk_number.Tie as tie
 
-sizes-of-requires : tie.Need-sizes-of-requires
-sizes-of-requires c κs = search needs
-
-place-at-requires : tie.Need-place-at-requires
-place-at-requires c κs = search needs
-
-number-of-requires : tie.Need-number-of-requires
-number-of-requires c κs = search needs
-
-enum-known-a : tie.Need-enum-known-a
-enum-known-a c = search needs
-
 -- the answer is that of the sizes and the place that were given
 answered : (c : tie.After-number-of) →
     let a = c .before .before .before .args in c .number-of .result ≡ numberAnswer (sizes (a .w) (a .h) (a .d)) (place (a .x) (a .y) (a .z))
@@ -32,12 +20,6 @@ cast-node c =
     let (r, l) = number-fits _ _ _ (sym (answered (c .before .before .before)) ∙ c .before .a .given .1) in
     omega (arith, nodes-le _ r)
 
-enum-known-a-2 : tie.Need-enum-known-a-2
-enum-known-a-2 c = search needs
-
-number-requires : tie.Need-number-requires
-number-requires c κs = search needs
-
 returns : tie.Need-returns
 returns c = ap nodeFields (sym (c .before .a .given .1) ∙ answered (c .before .before .before))
 
@@ -46,14 +28,5 @@ returns-2 c = rw (c .number .ensures) (ap nodeFields (sym (c .before .before .a2
 
 pub dk-number-spec : {M : Type 1} → statement M
 dk-number-spec =
-    tie.close
-    (tie.spec
-    sizes-of-requires
-    place-at-requires
-    number-of-requires
-    enum-known-a
-    cast-node
-    enum-known-a-2
-    number-requires
-    returns
-    returns-2)
+    tie.close (tie.spec (λ c κs. search needs) (λ c κs. search needs) (λ c κs. search needs) (λ c. search needs)
+    cast-node (λ c. search needs) (λ c κs. search needs) returns returns-2)

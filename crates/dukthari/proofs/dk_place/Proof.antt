@@ -9,15 +9,6 @@ use Rattle.dukthari.specs.Answers.{placeFields}
 use Rattle.dukthari.proofs.dk_place.Statement.{statement}
 use Rattle.dukthari.proofs.dk_place.Tie as tie
 
-sizes-of-requires : tie.Need-sizes-of-requires
-sizes-of-requires c κs = search needs
-
-place-of-requires : tie.Need-place-of-requires
-place-of-requires c κs = search needs
-
-enum-known-a : tie.Need-enum-known-a
-enum-known-a c = search needs
-
 -- the answer is that of the sizes that were given
 answered : (c : tie.After-place-of) →
     let a = c .before .before .args in c .place-of .result ≡ placeAnswer (sizes (a .w) (a .h) (a .d)) (a .node)
@@ -37,12 +28,6 @@ cast-y c = let (r, i) = fits (c .before) in omega arith
 cast-z : tie.Need-cast-z
 cast-z c = let (r, i) = fits (c .before .before) in omega arith
 
-enum-known-a-2 : tie.Need-enum-known-a-2
-enum-known-a-2 c = search needs
-
-number-requires : tie.Need-number-requires
-number-requires c κs = search needs
-
 returns : tie.Need-returns
 returns c = ap placeFields (sym (c .before .before .before .before .a .given .1) ∙ answered (c .before .before .before .before .before .before))
 
@@ -51,15 +36,5 @@ returns-2 c = rw (c .number .ensures) (ap placeFields (sym (c .before .before .a
 
 pub dk-place-spec : {M : Type 1} → statement M
 dk-place-spec =
-    tie.close
-    (tie.spec
-    sizes-of-requires
-    place-of-requires
-    enum-known-a
-    cast-x
-    cast-y
-    cast-z
-    enum-known-a-2
-    number-requires
-    returns
-    returns-2)
+    tie.close (tie.spec (λ c κs. search needs) (λ c κs. search needs) (λ c. search needs) cast-x cast-y cast-z
+    (λ c. search needs) (λ c κs. search needs) returns returns-2)

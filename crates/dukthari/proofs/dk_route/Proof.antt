@@ -5,21 +5,12 @@ use borrow.Author.Needs.{needs}
 use Rattle.dukthari.proofs.dk_route.Statement.{statement}
 use Rattle.dukthari.proofs.dk_route.Tie as tie
 
-sizes-of-requires : tie.Need-sizes-of-requires
-sizes-of-requires c κs = search needs
-
-route-requires : tie.Need-route-requires
-route-requires c κs = search needs
-
 counted-requires : tie.Need-counted-requires
 counted-requires c κs = let a = c .before .before in rw (a .route .ensures .0, a .before .before .sizes-of .ensures) (route-fits _ _ _ _ _)
-
-same-length : tie.Need-same-length
-same-length c = search needs
 
 returns : tie.Need-returns
 returns c = let a = c .before .before .before in (c .counted .ensures ∙ (rw (a .route .ensures .0, a .before .before .sizes-of .ensures)), rw (← a .before .before .sizes-of .ensures) (a .route .ensures .1))
 
 pub dk-route-spec : {M : Type 1} → statement M
 dk-route-spec =
-    tie.close (tie.spec sizes-of-requires route-requires counted-requires same-length returns)
+    tie.close (tie.spec (λ c κs. search needs) (λ c κs. search needs) counted-requires (λ c. search needs) returns)

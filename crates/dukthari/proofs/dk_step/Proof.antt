@@ -10,21 +10,6 @@ use Rattle.dukthari.specs.Answers.{stepFields}
 use Rattle.dukthari.proofs.dk_step.Statement.{statement}
 use Rattle.dukthari.proofs.dk_step.Tie as tie
 
-sizes-of-requires : tie.Need-sizes-of-requires
-sizes-of-requires c κs = search needs
-
-place-at-requires : tie.Need-place-at-requires
-place-at-requires c κs = search needs
-
-step-from-requires : tie.Need-step-from-requires
-step-from-requires c κs = search needs
-
-enum-known-a : tie.Need-enum-known-a
-enum-known-a c = search needs
-
-enum-known-n : tie.Need-enum-known-n
-enum-known-n c = search needs
-
 -- the answer is that of the sizes and the place that were given
 answered : (c : tie.After-step-from) →
     let a = c .before .before .before .args in
@@ -50,15 +35,6 @@ cast-y c = let (r, i) = fits (c .before) in omega arith
 cast-z : tie.Need-cast-z
 cast-z c = let (r, i) = fits (c .before .before) in omega arith
 
-enum-told : tie.Need-enum-told
-enum-told c = search needs
-
-enum-known-a-2 : tie.Need-enum-known-a-2
-enum-known-a-2 c = search needs
-
-number-requires : tie.Need-number-requires
-number-requires c κs = search needs
-
 returns : tie.Need-returns
 returns c = ap stepFields (sym (led (c .before .before .before .before .before .before) ∙ ap Led (c .before .before .before .before .n .given .1)))
 
@@ -70,19 +46,6 @@ returns-3 c = rw (c .number .ensures) (ap stepFields (sym (c .before .before .a2
 
 pub dk-step-spec : {M : Type 1} → statement M
 dk-step-spec =
-    tie.close
-    (tie.spec
-    sizes-of-requires
-    place-at-requires
-    step-from-requires
-    enum-known-a
-    enum-known-n
-    cast-x
-    cast-y
-    cast-z
-    enum-told
-    enum-known-a-2
-    number-requires
-    returns
-    returns-2
-    returns-3)
+    tie.close (tie.spec (λ c κs. search needs) (λ c κs. search needs) (λ c κs. search needs) (λ c. search needs)
+    (λ c. search needs) cast-x cast-y cast-z (λ c. search needs) (λ c. search needs) (λ c κs. search needs) returns
+    returns-2 returns-3)

@@ -5,12 +5,6 @@ use borrow.Author.Needs.{needs}
 use Rattle.dukthari.proofs.dk_verdict.Statement.{statement}
 use Rattle.dukthari.proofs.dk_verdict.Tie as tie
 
-sizes-of-requires : tie.Need-sizes-of-requires
-sizes-of-requires c κs = search needs
-
-verdict-requires : tie.Need-verdict-requires
-verdict-requires c κs = search needs
-
 judged-requires : tie.Need-judged-requires
 judged-requires c κs = rw (c .verdict .ensures, c .before .sizes-of .ensures) (verdict-fits _ _ _ _)
 
@@ -18,4 +12,4 @@ returns : tie.Need-returns
 returns c = c .judged .ensures ∙ (rw (c .before .verdict .ensures, c .before .before .sizes-of .ensures))
 
 pub dk-verdict-spec : {M : Type 1} → statement M
-dk-verdict-spec = tie.close (tie.spec sizes-of-requires verdict-requires judged-requires returns)
+dk-verdict-spec = tie.close (tie.spec (λ c κs. search needs) (λ c κs. search needs) judged-requires returns)

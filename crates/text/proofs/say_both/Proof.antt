@@ -6,15 +6,6 @@ use Rattle.text.proofs.Saying.{said-next}
 use Rattle.text.proofs.say_both.Statement.{statement}
 use Rattle.text.proofs.say_both.Tie as tie
 
-say-requires : tie.Need-say-requires
-say-requires c κs = search needs
-
-say-number-requires : tie.Need-say-number-requires
-say-number-requires c κs = search needs
-
-same-length : tie.Need-same-length
-same-length c = search needs
-
 returns : tie.Need-returns
 returns c =
     let number = c .before .before in
@@ -25,4 +16,4 @@ returns c =
     )
 
 pub say-both-spec : {M : Type 1} → statement M
-say-both-spec = tie.close (tie.spec say-requires say-number-requires same-length returns)
+say-both-spec = tie.close (tie.spec (λ c κs. search needs) (λ c κs. search needs) (λ c. search needs) returns)

@@ -17,20 +17,8 @@ digits-are c =
     let s = c .before .before .before in
     c .decimal .ensures .1 .1 ∙ decimal-is (c .decimal .result) (s .args .n) (c .decimal .ensures .1 .0) (s .fits .n .fits)
 
-decimal-requires : tie.Need-decimal-requires
-decimal-requires c κs = search needs
-
-array-share-prefix-digits : tie.Need-array-share-prefix-digits
-array-share-prefix-digits c = search needs
-
-slice-aggregate-say : tie.Need-slice-aggregate-say
-slice-aggregate-say c = search needs
-
 say-requires : tie.Need-say-requires
 say-requires c κs = omega (arith, ap length (digits-are (c .before .before)), length-decimal (c .before .before .before .before .before .args .n))
-
-same-length : tie.Need-same-length
-same-length c = search needs
 
 returns : tie.Need-returns
 returns c =
@@ -41,11 +29,5 @@ returns c =
 
 pub say-number-spec : {M : Type 1} → statement M
 say-number-spec =
-    tie.close
-    (tie.spec
-    decimal-requires
-    array-share-prefix-digits
-    slice-aggregate-say
-    say-requires
-    same-length
+    tie.close (tie.spec (λ c κs. search needs) (λ c. search needs) (λ c. search needs) say-requires (λ c. search needs)
     returns)

@@ -24,39 +24,6 @@ module _ (S : Sizes) (cells : List ℕ) (t : Totals) (line : List ℕ) (y : Entr
   unfolding lineTotals
   line-totals = ap (tally S cells t) (sym is)
 
-add-k : tie.Need-add-k
-add-k c = search needs
-
-entry-requires : tie.Need-entry-requires
-entry-requires c κs = search needs
-
-enum-told : tie.Need-enum-told
-enum-told c = search needs
-
-plus-requires : tie.Need-plus-requires
-plus-requires c κs = search needs
-
-enum-known-start : tie.Need-enum-known-start
-enum-known-start c = search needs
-
-verdict-requires : tie.Need-verdict-requires
-verdict-requires c κs = search needs
-
-transfer-requires : tie.Need-transfer-requires
-transfer-requires c κs = search needs
-
-judge-requires : tie.Need-judge-requires
-judge-requires c κs = search needs
-
-enum-told-2 : tie.Need-enum-told-2
-enum-told-2 c = search needs
-
-no-pair-requires : tie.Need-no-pair-requires
-no-pair-requires c κs = search needs
-
-plus-requires-2 : tie.Need-plus-requires-2
-plus-requires-2 c κs = search needs
-
 returns : tie.Need-returns
 returns c =
     let e = c .before .before .before in
@@ -66,9 +33,6 @@ returns c =
       said-as (line-text (a .s) (now (a .cells)) (a .t) (now (a .line)) Nothing is) (said-none _ _),
       omega arith,
     )
-
-same-length : tie.Need-same-length
-same-length c = search needs
 
 returns-2 : tie.Need-returns-2
 returns-2 c =
@@ -82,9 +46,6 @@ returns-2 c =
       said-as (line-text (a .s) (now (a .cells)) (a .t) (now (a .line)) _ is) (said .transfer .ensures .0),
       said .transfer .ensures .1,
     )
-
-same-length-2 : tie.Need-same-length-2
-same-length-2 c = search needs
 
 returns-3 : tie.Need-returns-3
 returns-3 c =
@@ -100,21 +61,6 @@ returns-3 c =
 
 pub audit-line-spec : {M : Type 1} → statement M
 audit-line-spec =
-    tie.close
-    (tie.spec
-    add-k
-    entry-requires
-    enum-told
-    plus-requires
-    enum-known-start
-    verdict-requires
-    transfer-requires
-    judge-requires
-    enum-told-2
-    no-pair-requires
-    plus-requires-2
-    returns
-    same-length
-    returns-2
-    same-length-2
-    returns-3)
+    tie.close (tie.spec (λ c. search needs) (λ c κs. search needs) (λ c. search needs) (λ c κs. search needs)
+    (λ c. search needs) (λ c κs. search needs) (λ c κs. search needs) (λ c κs. search needs) (λ c. search needs)
+    (λ c κs. search needs) (λ c κs. search needs) returns (λ c. search needs) returns-2 (λ c. search needs) returns-3)

@@ -11,18 +11,6 @@ use borrow.Author.Needs.{needs}
 use Rattle.audit.proofs.auditing.line_from.Statement.{statement}
 use Rattle.audit.proofs.auditing.line_from.Tie as tie
 
-sub-up-to : tie.Need-sub-up-to
-sub-up-to c = search needs
-
-part-up-to-start : tie.Need-part-up-to-start
-part-up-to-start c = search needs
-
-part-up-to-end : tie.Need-part-up-to-end
-part-up-to-end c = search needs
-
-up-to-requires : tie.Need-up-to-requires
-up-to-requires c κs = search needs
-
 returns : tie.Need-returns
 returns c =
     let a = c .before .before .before .args in
@@ -32,4 +20,4 @@ returns c =
 
 pub line-from-spec : {M : Type 1} → statement M
 line-from-spec =
-    tie.close (tie.spec sub-up-to part-up-to-start part-up-to-end up-to-requires returns)
+    tie.close (tie.spec (λ c. search needs) (λ c. search needs) (λ c. search needs) (λ c κs. search needs) returns)

@@ -6,24 +6,6 @@ use Rattle.audit.proofs.Pieces.{said-exact, said-then}
 use Rattle.audit.proofs.columns.columns.Statement.{statement}
 use Rattle.audit.proofs.columns.columns.Tie as tie
 
-slice-aggregate-say : tie.Need-slice-aggregate-say
-slice-aggregate-say c = search needs
-
-say-requires : tie.Need-say-requires
-say-requires c κs = search needs
-
-say-each-requires : tie.Need-say-each-requires
-say-each-requires c κs = search needs
-
-slice-aggregate-say-2 : tie.Need-slice-aggregate-say-2
-slice-aggregate-say-2 c = search needs
-
-say-requires-2 : tie.Need-say-requires-2
-say-requires-2 c κs = search needs
-
-same-length : tie.Need-same-length
-same-length c = search needs
-
 returns : tie.Need-returns
 unfolding columnsText
 returns c =
@@ -36,12 +18,5 @@ returns c =
 
 pub columns-spec : {M : Type 1} → statement M
 columns-spec =
-    tie.close
-    (tie.spec
-    slice-aggregate-say
-    say-requires
-    say-each-requires
-    slice-aggregate-say-2
-    say-requires-2
-    same-length
-    returns)
+    tie.close (tie.spec (λ c. search needs) (λ c κs. search needs) (λ c κs. search needs) (λ c. search needs)
+    (λ c κs. search needs) (λ c. search needs) returns)

@@ -5,18 +5,6 @@ use borrow.Author.Needs.{needs}
 use Rattle.audit.proofs.columns.say_column.Statement.{statement}
 use Rattle.audit.proofs.columns.say_column.Tie as tie
 
-slice-aggregate-say : tie.Need-slice-aggregate-say
-slice-aggregate-say c = search needs
-
-say-requires : tie.Need-say-requires
-say-requires c κs = search needs
-
-say-two-requires : tie.Need-say-two-requires
-say-two-requires c κs = search needs
-
-same-length : tie.Need-same-length
-same-length c = search needs
-
 returns : tie.Need-returns
 returns c =
     let number = c .before .before in
@@ -25,4 +13,4 @@ returns c =
 
 pub say-column-spec : {M : Type 1} → statement M
 say-column-spec =
-    tie.close (tie.spec slice-aggregate-say say-requires say-two-requires same-length returns)
+    tie.close (tie.spec (λ c. search needs) (λ c κs. search needs) (λ c κs. search needs) (λ c. search needs) returns)

@@ -5,21 +5,6 @@ use borrow.Author.Needs.{needs}
 use Rattle.audit.proofs.counting.say_refused.Statement.{statement}
 use Rattle.audit.proofs.counting.say_refused.Tie as tie
 
-slice-aggregate-say-both : tie.Need-slice-aggregate-say-both
-slice-aggregate-say-both c = search needs
-
-say-both-requires : tie.Need-say-both-requires
-say-both-requires c κs = search needs
-
-slice-aggregate-say-both-2 : tie.Need-slice-aggregate-say-both-2
-slice-aggregate-say-both-2 c = search needs
-
-say-both-requires-2 : tie.Need-say-both-requires-2
-say-both-requires-2 c κs = search needs
-
-same-length : tie.Need-same-length
-same-length c = search needs
-
 returns : tie.Need-returns
 returns c =
     let refused = c .before .before in
@@ -28,11 +13,5 @@ returns c =
 
 pub say-refused-spec : {M : Type 1} → statement M
 say-refused-spec =
-    tie.close
-    (tie.spec
-    slice-aggregate-say-both
-    say-both-requires
-    slice-aggregate-say-both-2
-    say-both-requires-2
-    same-length
-    returns)
+    tie.close (tie.spec (λ c. search needs) (λ c κs. search needs) (λ c. search needs) (λ c κs. search needs)
+    (λ c. search needs) returns)

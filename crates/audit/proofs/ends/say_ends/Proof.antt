@@ -8,42 +8,6 @@ use borrow.Author.Needs.{needs}
 use Rattle.audit.proofs.ends.say_ends.Statement.{statement}
 use Rattle.audit.proofs.ends.say_ends.Tie as tie
 
-slice-aggregate-say : tie.Need-slice-aggregate-say
-slice-aggregate-say c = search needs
-
-say-requires : tie.Need-say-requires
-say-requires c κs = search needs
-
-say-place-requires : tie.Need-say-place-requires
-say-place-requires c κs = search needs
-
-slice-aggregate-say-2 : tie.Need-slice-aggregate-say-2
-slice-aggregate-say-2 c = search needs
-
-say-requires-2 : tie.Need-say-requires-2
-say-requires-2 c κs = search needs
-
-say-place-requires-2 : tie.Need-say-place-requires-2
-say-place-requires-2 c κs = search needs
-
-slice-aggregate-say-3 : tie.Need-slice-aggregate-say-3
-slice-aggregate-say-3 c = search needs
-
-say-requires-3 : tie.Need-say-requires-3
-say-requires-3 c κs = search needs
-
-say-ways-requires : tie.Need-say-ways-requires
-say-ways-requires c κs = search needs
-
-slice-aggregate-say-4 : tie.Need-slice-aggregate-say-4
-slice-aggregate-say-4 c = search needs
-
-say-requires-4 : tie.Need-say-requires-4
-say-requires-4 c κs = search needs
-
-same-length : tie.Need-same-length
-same-length c = search needs
-
 returns : tie.Need-returns
 unfolding endsText
 returns c =
@@ -65,18 +29,6 @@ returns c =
 
 pub say-ends-spec : {M : Type 1} → statement M
 say-ends-spec =
-    tie.close
-    (tie.spec
-    slice-aggregate-say
-    say-requires
-    say-place-requires
-    slice-aggregate-say-2
-    say-requires-2
-    say-place-requires-2
-    slice-aggregate-say-3
-    say-requires-3
-    say-ways-requires
-    slice-aggregate-say-4
-    say-requires-4
-    same-length
-    returns)
+    tie.close (tie.spec (λ c. search needs) (λ c κs. search needs) (λ c κs. search needs) (λ c. search needs)
+    (λ c κs. search needs) (λ c κs. search needs) (λ c. search needs) (λ c κs. search needs) (λ c κs. search needs)
+    (λ c. search needs) (λ c κs. search needs) (λ c. search needs) returns)

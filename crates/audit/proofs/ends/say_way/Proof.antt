@@ -11,12 +11,6 @@ returns : tie.Need-returns
 unfolding wayText
 returns c = rw (eq-eqb _ _ (c .if1 .taken)) (said-none _ _, omega arith)
 
-say-requires : tie.Need-say-requires
-say-requires c κs = search needs
-
-same-length : tie.Need-same-length
-same-length c = search needs
-
 returns-2 : tie.Need-returns-2
 unfolding wayText
 returns-2 c =
@@ -24,12 +18,6 @@ returns-2 c =
     let down = said .before .before in
     let s = down .before .before .before .before .before .before in
     rw (ne-eqb _ _ (down .before .if1 .left), down .if2 .taken) (said .say .ensures, omega (arith, said .say .ensures .place, s .pre .1))
-
-say-requires-2 : tie.Need-say-requires-2
-say-requires-2 c κs = search needs
-
-same-length-2 : tie.Need-same-length-2
-same-length-2 c = search needs
 
 returns-3 : tie.Need-returns-3
 unfolding wayText
@@ -41,5 +29,5 @@ returns-3 c =
 
 pub say-way-spec : {M : Type 1} → statement M
 say-way-spec =
-    tie.close
-    (tie.spec returns say-requires same-length returns-2 say-requires-2 same-length-2 returns-3)
+    tie.close (tie.spec returns (λ c κs. search needs) (λ c. search needs) returns-2 (λ c κs. search needs)
+    (λ c. search needs) returns-3)

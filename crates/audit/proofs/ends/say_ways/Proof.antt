@@ -6,36 +6,6 @@ use borrow.Author.Needs.{needs}
 use Rattle.audit.proofs.ends.say_ways.Statement.{statement}
 use Rattle.audit.proofs.ends.say_ways.Tie as tie
 
-slice-aggregate-say-way : tie.Need-slice-aggregate-say-way
-slice-aggregate-say-way c = search needs
-
-slice-aggregate-say-way-2 : tie.Need-slice-aggregate-say-way-2
-slice-aggregate-say-way-2 c = search needs
-
-say-way-requires : tie.Need-say-way-requires
-say-way-requires c κs = search needs
-
-slice-aggregate-say-way-3 : tie.Need-slice-aggregate-say-way-3
-slice-aggregate-say-way-3 c = search needs
-
-slice-aggregate-say-way-4 : tie.Need-slice-aggregate-say-way-4
-slice-aggregate-say-way-4 c = search needs
-
-say-way-requires-2 : tie.Need-say-way-requires-2
-say-way-requires-2 c κs = search needs
-
-slice-aggregate-say-way-5 : tie.Need-slice-aggregate-say-way-5
-slice-aggregate-say-way-5 c = search needs
-
-slice-aggregate-say-way-6 : tie.Need-slice-aggregate-say-way-6
-slice-aggregate-say-way-6 c = search needs
-
-say-way-requires-3 : tie.Need-say-way-requires-3
-say-way-requires-3 c κs = search needs
-
-same-length : tie.Need-same-length
-same-length c = search needs
-
 returns : tie.Need-returns
 unfolding waysText
 returns c =
@@ -47,16 +17,6 @@ returns c =
 
 pub say-ways-spec : {M : Type 1} → statement M
 say-ways-spec =
-    tie.close
-    (tie.spec
-    slice-aggregate-say-way
-    slice-aggregate-say-way-2
-    say-way-requires
-    slice-aggregate-say-way-3
-    slice-aggregate-say-way-4
-    say-way-requires-2
-    slice-aggregate-say-way-5
-    slice-aggregate-say-way-6
-    say-way-requires-3
-    same-length
-    returns)
+    tie.close (tie.spec (λ c. search needs) (λ c. search needs) (λ c κs. search needs) (λ c. search needs)
+    (λ c. search needs) (λ c κs. search needs) (λ c. search needs) (λ c. search needs) (λ c κs. search needs)
+    (λ c. search needs) returns)

@@ -6,15 +6,6 @@ use borrow.Author.Needs.{needs}
 use Rattle.audit.proofs.heading.heading.Statement.{statement}
 use Rattle.audit.proofs.heading.heading.Tie as tie
 
-say-sizes-requires : tie.Need-say-sizes-requires
-say-sizes-requires c κs = search needs
-
-say-numbers-requires : tie.Need-say-numbers-requires
-say-numbers-requires c κs = search needs
-
-same-length : tie.Need-same-length
-same-length c = search needs
-
 returns : tie.Need-returns
 unfolding headingText
 returns c =
@@ -25,4 +16,4 @@ returns c =
     (said .0, omega (arith, said .1))
 
 pub heading-spec : {M : Type 1} → statement M
-heading-spec = tie.close (tie.spec say-sizes-requires say-numbers-requires same-length returns)
+heading-spec = tie.close (tie.spec (λ c κs. search needs) (λ c κs. search needs) (λ c. search needs) returns)

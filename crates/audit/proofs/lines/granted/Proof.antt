@@ -37,27 +37,6 @@ nodes-are c i l =
     (ap (λ (x : List ℕ). getD x i 0) (c .route .ensures .1)
     ∙ route-at (a .s) (now (a .cells)) (a .start) (a .end) (s .pre .0) (replicate 46 0) refl i (omega (arith, s .pre .1)))
 
-slice-aggregate-route : tie.Need-slice-aggregate-route
-slice-aggregate-route c = search needs
-
-route-requires : tie.Need-route-requires
-route-requires c κs = search needs
-
-slice-aggregate-say-both : tie.Need-slice-aggregate-say-both
-slice-aggregate-say-both c = search needs
-
-say-both-requires : tie.Need-say-both-requires
-say-both-requires c κs = search needs
-
-slice-aggregate-say : tie.Need-slice-aggregate-say
-slice-aggregate-say c = search needs
-
-say-requires : tie.Need-say-requires
-say-requires c κs = search needs
-
-slice-aggregate-say-route : tie.Need-slice-aggregate-say-route
-slice-aggregate-say-route c = search needs
-
 add-say-route : tie.Need-add-say-route
 add-say-route c = omega (arith, few (c .before .before .before .before .before .before .before .before .before .before .before .before))
 
@@ -71,15 +50,6 @@ say-route-requires c κs =
       omega (arith, few written),
       omega (arith, s .pre .2, word .say .ensures .place, hops .say-both .ensures .1, word .say .kept .1 .0, hops .say-both .kept .1 .1 .0),
     )
-
-slice-aggregate-say-2 : tie.Need-slice-aggregate-say-2
-slice-aggregate-say-2 c = search needs
-
-say-requires-2 : tie.Need-say-requires-2
-say-requires-2 c κs = search needs
-
-same-length : tie.Need-same-length
-same-length c = search needs
 
 returns : tie.Need-returns
 unfolding grantedText
@@ -101,18 +71,6 @@ returns c =
 
 pub granted-spec : {M : Type 1} → statement M
 granted-spec =
-    tie.close
-    (tie.spec
-    slice-aggregate-route
-    route-requires
-    slice-aggregate-say-both
-    say-both-requires
-    slice-aggregate-say
-    say-requires
-    slice-aggregate-say-route
-    add-say-route
-    say-route-requires
-    slice-aggregate-say-2
-    say-requires-2
-    same-length
-    returns)
+    tie.close (tie.spec (λ c. search needs) (λ c κs. search needs) (λ c. search needs) (λ c κs. search needs)
+    (λ c. search needs) (λ c κs. search needs) (λ c. search needs) add-say-route say-route-requires (λ c. search needs)
+    (λ c κs. search needs) (λ c. search needs) returns)

@@ -14,24 +14,6 @@ use borrow.Author.Needs.{needs}
 use Rattle.audit.proofs.lines.refused.Statement.{statement}
 use Rattle.audit.proofs.lines.refused.Tie as tie
 
-slice-aggregate-say : tie.Need-slice-aggregate-say
-slice-aggregate-say c = search needs
-
-say-requires : tie.Need-say-requires
-say-requires c κs = search needs
-
-say-reason-requires : tie.Need-say-reason-requires
-say-reason-requires c κs = search needs
-
-slice-aggregate-say-2 : tie.Need-slice-aggregate-say-2
-slice-aggregate-say-2 c = search needs
-
-say-requires-2 : tie.Need-say-requires-2
-say-requires-2 c κs = search needs
-
-no-path-requires : tie.Need-no-path-requires
-no-path-requires c κs = search needs
-
 picture-requires : tie.Need-picture-requires
 picture-requires c κs =
     let asked = c .before .before in
@@ -52,9 +34,6 @@ picture-requires c κs =
         feed .say2 .kept .1 .0,
       ),
     )
-
-same-length : tie.Need-same-length
-same-length c = search needs
 
 -- the line of the refusal
 line-said : (c : tie.After-say2) →
@@ -78,9 +57,6 @@ returns c =
     let fits = feed .before .before .before .before .before .before .before .before .before .before .before .before .before .before .pre .1 in
     rw (sym (asked .no-path .ensures) ∙ drawn .before .before .if1 .taken) (said-then 75 40023 (omega (arith, fits)) (line-said feed) (drawn .picture .ensures))
 
-same-length-2 : tie.Need-same-length-2
-same-length-2 c = search needs
-
 returns-2 : tie.Need-returns-2
 unfolding refusedText
 returns-2 c =
@@ -90,16 +66,6 @@ returns-2 c =
 
 pub refused-spec : {M : Type 1} → statement M
 refused-spec =
-    tie.close
-    (tie.spec
-    slice-aggregate-say
-    say-requires
-    say-reason-requires
-    slice-aggregate-say-2
-    say-requires-2
-    no-path-requires
-    picture-requires
-    same-length
-    returns
-    same-length-2
+    tie.close (tie.spec (λ c. search needs) (λ c κs. search needs) (λ c κs. search needs) (λ c. search needs)
+    (λ c κs. search needs) (λ c κs. search needs) picture-requires (λ c. search needs) returns (λ c. search needs)
     returns-2)

@@ -20,12 +20,6 @@ judged-text : (S : Sizes) (cells : List ℕ) (k s e : ℕ) (v : Verdict) → ver
     → headText k s e ++ verdictText S cells s e v ≡ transferText S cells k s e
 judged-text S cells k s e v is = ap (λ (x : Verdict). headText k s e ++ verdictText S cells s e x) (sym is)
 
-head-requires : tie.Need-head-requires
-head-requires c κs = search needs
-
-enum-known-v : tie.Need-enum-known-v
-enum-known-v c = search needs
-
 granted-requires : tie.Need-granted-requires
 granted-requires c κs =
     let v = c .before .before in
@@ -35,18 +29,12 @@ granted-requires c κs =
     let says = granted-says (a .s) (now (a .cells)) (a .start) (a .end) _ _ (sym (s .pre .0) ∙ v .v .given .1) in
     (says .0, says .1, omega (arith, s .pre .1, head .head .ensures .1, head .head .kept .1 .1 .1 .0))
 
-enum-known-v-2 : tie.Need-enum-known-v-2
-enum-known-v-2 c = search needs
-
 refused-requires : tie.Need-refused-requires
 refused-requires c κs =
     let v = c .before .before in
     let head = v .before .before .before .before in
     let s = head .before .before .before .before in
     (sym (s .pre .0) ∙ v .v2 .given .1, omega (arith, s .pre .1, head .head .ensures .1, head .head .kept .1 .1 .1 .0))
-
-same-length : tie.Need-same-length
-same-length c = search needs
 
 returns : tie.Need-returns
 returns c =
@@ -57,9 +45,6 @@ returns c =
     let a = s .args in
     let said = said-then 71 1010 (omega (arith, s .pre .1)) (head .head .ensures) (rest .granted .ensures) in
     (said-as (judged-text (a .s) (now (a .cells)) (a .k) (a .start) (a .end) _ (sym (s .pre .0) ∙ v .v .given .1)) (said .0), omega (arith, said .1))
-
-same-length-2 : tie.Need-same-length-2
-same-length-2 c = search needs
 
 returns-2 : tie.Need-returns-2
 returns-2 c =
@@ -73,14 +58,5 @@ returns-2 c =
 
 pub transfer-spec : {M : Type 1} → statement M
 transfer-spec =
-    tie.close
-    (tie.spec
-    head-requires
-    enum-known-v
-    granted-requires
-    enum-known-v-2
-    refused-requires
-    same-length
-    returns
-    same-length-2
-    returns-2)
+    tie.close (tie.spec (λ c κs. search needs) (λ c. search needs) granted-requires (λ c. search needs) refused-requires
+    (λ c. search needs) returns (λ c. search needs) returns-2)

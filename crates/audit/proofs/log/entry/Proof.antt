@@ -31,20 +31,8 @@ end-is : (c : tie.After-number2) →
     c .number2 .result ≡ numberOf (upTo Blank (now (c .before .before .before .before .before .before .before .before .before .next-word .result)))
 end-is c = c .number2 .ensures ∙ ap numberOf (c .before .up-to3 .ensures)
 
-up-to-requires : tie.Need-up-to-requires
-up-to-requires c κs = search needs
-
-past-requires : tie.Need-past-requires
-past-requires c κs = search needs
-
 returns : tie.Need-returns
 returns c = says-nothing (now (c .before .before .before .before .args .line)) (now (c .before .past .result)) (first-is (c .before)) (c .if1 .taken)
-
-next-word-requires : tie.Need-next-word-requires
-next-word-requires c κs = search needs
-
-next-word-requires-2 : tie.Need-next-word-requires-2
-next-word-requires-2 c κs = search needs
 
 returns-2 : tie.Need-returns-2
 returns-2 c =
@@ -54,34 +42,10 @@ returns-2 c =
     says-more (now (first .before .before .before .args .line)) (now (first .past .result)) (first-is first) (second .before .if1 .left)
     (now (second .next-word .result)) (now (third .next-word2 .result)) (second .next-word .ensures) (third .next-word2 .ensures) (c .if2 .taken)
 
-up-to-requires-2 : tie.Need-up-to-requires-2
-up-to-requires-2 c κs = search needs
-
-number-requires : tie.Need-number-requires
-number-requires c κs = search needs
-
-enum-known-start : tie.Need-enum-known-start
-enum-known-start c = search needs
-
-enum-told : tie.Need-enum-told
-enum-told c = search needs
-
 returns-3 : tie.Need-returns-3
 returns-3 c =
     let number = c .before .before in
     no-start _ _ (sym (start-is number) ∙ c .enum-told .given .1) ∙ pair-is (number .before .before)
-
-up-to-requires-3 : tie.Need-up-to-requires-3
-up-to-requires-3 c κs = search needs
-
-number-requires-2 : tie.Need-number-requires-2
-number-requires-2 c κs = search needs
-
-enum-known-end : tie.Need-enum-known-end
-enum-known-end c = search needs
-
-enum-told-2 : tie.Need-enum-told-2
-enum-told-2 c = search needs
 
 returns-4 : tie.Need-returns-4
 returns-4 c =
@@ -101,22 +65,7 @@ returns-5 c =
 
 pub entry-spec : {M : Type 1} → statement M
 entry-spec =
-    tie.close
-    (tie.spec
-    up-to-requires
-    past-requires
-    returns
-    next-word-requires
-    next-word-requires-2
-    returns-2
-    up-to-requires-2
-    number-requires
-    enum-known-start
-    enum-told
-    returns-3
-    up-to-requires-3
-    number-requires-2
-    enum-known-end
-    enum-told-2
-    returns-4
-    returns-5)
+    tie.close (tie.spec (λ c κs. search needs) (λ c κs. search needs) returns (λ c κs. search needs)
+    (λ c κs. search needs) returns-2 (λ c κs. search needs) (λ c κs. search needs) (λ c. search needs)
+    (λ c. search needs) returns-3 (λ c κs. search needs) (λ c κs. search needs) (λ c. search needs) (λ c. search needs)
+    returns-4 returns-5)

@@ -9,18 +9,6 @@ use lib.Seq.{take-all}
 use Rattle.audit.proofs.log.past.Statement.{statement}
 use Rattle.audit.proofs.log.past.Tie as tie
 
-before-requires : tie.Need-before-requires
-before-requires c κs = search needs
-
-sub-result : tie.Need-sub-result
-sub-result c = search needs
-
-part-result-start : tie.Need-part-result-start
-part-result-start c = search needs
-
-part-result-end : tie.Need-part-result-end
-part-result-end c = search needs
-
 returns : tie.Need-returns
 returns c =
     let n = c .before in
@@ -30,4 +18,4 @@ returns c =
 
 pub past-spec : {M : Type 1} → statement M
 past-spec =
-    tie.close (tie.spec before-requires sub-result part-result-start part-result-end returns)
+    tie.close (tie.spec (λ c κs. search needs) (λ c. search needs) (λ c. search needs) (λ c. search needs) returns)

@@ -8,9 +8,6 @@ use lib.Seq.{length-take-le}
 use Rattle.audit.proofs.log.up_to.Statement.{statement}
 use Rattle.audit.proofs.log.up_to.Tie as tie
 
-before-requires : tie.Need-before-requires
-before-requires c κs = search needs
-
 slice-aggregate-result : tie.Need-slice-aggregate-result
 slice-aggregate-result c =
     let n = c .before in
@@ -20,4 +17,4 @@ returns : tie.Need-returns
 returns c = ap (λ (k : ℕ). take k (now (c .before .before .before .args .text))) (c .before .before2 .ensures .0)
 
 pub up-to-spec : {M : Type 1} → statement M
-up-to-spec = tie.close (tie.spec before-requires slice-aggregate-result returns)
+up-to-spec = tie.close (tie.spec (λ c κs. search needs) slice-aggregate-result returns)

@@ -6,15 +6,6 @@ use borrow.Author.Needs.{needs}
 use Rattle.audit.proofs.picture.layer.Statement.{statement}
 use Rattle.audit.proofs.picture.layer.Tie as tie
 
-layer-head-requires : tie.Need-layer-head-requires
-layer-head-requires c κs = search needs
-
-rows-requires : tie.Need-rows-requires
-rows-requires c κs = search needs
-
-same-length : tie.Need-same-length
-same-length c = search needs
-
 returns : tie.Need-returns
 unfolding layerText
 returns c =
@@ -23,4 +14,4 @@ returns c =
     said-then 394 2096 (omega (arith, head .before .before .before .before .pre .2)) (head .layer-head .ensures) (body .rows .ensures)
 
 pub layer-spec : {M : Type 1} → statement M
-layer-spec = tie.close (tie.spec layer-head-requires rows-requires same-length returns)
+layer-spec = tie.close (tie.spec (λ c κs. search needs) (λ c κs. search needs) (λ c. search needs) returns)

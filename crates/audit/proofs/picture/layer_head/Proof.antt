@@ -11,22 +11,10 @@ use borrow.Author.Needs.{needs}
 use Rattle.audit.proofs.picture.layer_head.Statement.{statement}
 use Rattle.audit.proofs.picture.layer_head.Tie as tie
 
-slice-aggregate-say-both : tie.Need-slice-aggregate-say-both
-slice-aggregate-say-both c = search needs
-
 at-requires : tie.Need-at-requires
 at-requires c κs =
     let s = c .before .before .before in
     (widen _ (s .args .s .d) (s .pre .1 .z-on) 4096 (omega (arith, s .pre .0 .d-hi)), s .pre .2)
-
-say-both-requires : tie.Need-say-both-requires
-say-both-requires c κs = search needs
-
-slice-aggregate-say : tie.Need-slice-aggregate-say
-slice-aggregate-say c = search needs
-
-say-requires : tie.Need-say-requires
-say-requires c κs = search needs
 
 columns-requires : tie.Need-columns-requires
 columns-requires c κs =
@@ -36,9 +24,6 @@ columns-requires c κs =
       widen _ (s .args .s .w) (s .pre .1 .x-on) 16 (s .pre .0 .w-hi),
       omega (arith, s .pre .3, feed .say .ensures .place, label .say-both .ensures .1, feed .say .kept .1 .0, label .say-both .kept .1 .1 .0),
     )
-
-same-length : tie.Need-same-length
-same-length c = search needs
 
 returns : tie.Need-returns
 returns c =
@@ -55,13 +40,5 @@ returns c =
 
 pub layer-head-spec : {M : Type 1} → statement M
 layer-head-spec =
-    tie.close
-    (tie.spec
-    slice-aggregate-say-both
-    at-requires
-    say-both-requires
-    slice-aggregate-say
-    say-requires
-    columns-requires
-    same-length
-    returns)
+    tie.close (tie.spec (λ c. search needs) at-requires (λ c κs. search needs) (λ c. search needs)
+    (λ c κs. search needs) columns-requires (λ c. search needs) returns)

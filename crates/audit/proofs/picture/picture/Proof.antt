@@ -51,15 +51,6 @@ box-held c =
     rw (c .between .ensures, u .place .ensures, v .place2 .ensures)
     (held (a .s) (placeOf (a .s) (a .start)) (placeOf (a .s) (a .end)) (k .start-in) (k .end-in))
 
-blank-requires : tie.Need-blank-requires
-blank-requires c κs = search needs
-
-slice-aggregate-draw : tie.Need-slice-aggregate-draw
-slice-aggregate-draw c = search needs
-
-draw-requires : tie.Need-draw-requires
-draw-requires c κs = search needs
-
 nodes-requires : tie.Need-nodes-requires
 nodes-requires c κs = ends c .sized
 
@@ -76,12 +67,6 @@ between-requires c κs =
     rw (c .before .place .ensures, c .place2 .ensures)
     (in-largest (a .s) (placeOf (a .s) (a .start)) (k .sized) (k .start-in), in-largest (a .s) (placeOf (a .s) (a .end)) (k .sized) (k .end-in))
 
-say-ends-requires : tie.Need-say-ends-requires
-say-ends-requires c κs = search needs
-
-array-share-prefix-drawn : tie.Need-array-share-prefix-drawn
-array-share-prefix-drawn c = search needs
-
 slice-aggregate-layers : tie.Need-slice-aggregate-layers
 slice-aggregate-layers c =
     let n = c .before .before .before .before .before .before .before .before in
@@ -96,9 +81,6 @@ layers-requires c κs =
       record { sized = ends (n .before) .sized; whole = drawn-whole n; held = box-held g },
       omega (arith, s .pre .1, head .say-ends .ensures .1, head .say-ends .kept .1 .1 .1 .0),
     )
-
-same-length : tie.Need-same-length
-same-length c = search needs
 
 returns : tie.Need-returns
 returns c =
@@ -118,18 +100,6 @@ returns c =
 
 pub picture-spec : {M : Type 1} → statement M
 picture-spec =
-    tie.close
-    (tie.spec
-    blank-requires
-    slice-aggregate-draw
-    draw-requires
-    nodes-requires
-    place-requires
-    place-requires-2
-    between-requires
-    say-ends-requires
-    array-share-prefix-drawn
-    slice-aggregate-layers
-    layers-requires
-    same-length
-    returns)
+    tie.close (tie.spec (λ c κs. search needs) (λ c. search needs) (λ c κs. search needs) nodes-requires place-requires
+    place-requires-2 between-requires (λ c κs. search needs) (λ c. search needs) slice-aggregate-layers layers-requires
+    (λ c. search needs) returns)

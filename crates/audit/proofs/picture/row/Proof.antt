@@ -18,24 +18,6 @@ at-requires c κs =
     let s = c .before .before .before in
     (widen _ (s .args .s .h) (s .pre .0 .held .y-on) 4096 (omega (arith, s .pre .0 .sized .h-hi)), s .pre .1 .y-le)
 
-say-y-requires : tie.Need-say-y-requires
-say-y-requires c κs = search needs
-
-row-symbols-requires : tie.Need-row-symbols-requires
-row-symbols-requires c κs = search needs
-
-node-requires : tie.Need-node-requires
-node-requires c κs = search needs
-
-node-requires-2 : tie.Need-node-requires-2
-node-requires-2 c κs = search needs
-
-say-nodes-requires : tie.Need-say-nodes-requires
-say-nodes-requires c κs = search needs
-
-same-length : tie.Need-same-length
-same-length c = search needs
-
 returns : tie.Need-returns
 unfolding rowText
 returns c =
@@ -53,13 +35,5 @@ returns c =
 
 pub row-spec : {M : Type 1} → statement M
 row-spec =
-    tie.close
-    (tie.spec
-    at-requires
-    say-y-requires
-    row-symbols-requires
-    node-requires
-    node-requires-2
-    say-nodes-requires
-    same-length
-    returns)
+    tie.close (tie.spec at-requires (λ c κs. search needs) (λ c κs. search needs) (λ c κs. search needs)
+    (λ c κs. search needs) (λ c κs. search needs) (λ c. search needs) returns)

@@ -5,24 +5,6 @@ use borrow.Author.Needs.{needs}
 use Rattle.audit.proofs.picture.say_y.Statement.{statement}
 use Rattle.audit.proofs.picture.say_y.Tie as tie
 
-slice-aggregate-say : tie.Need-slice-aggregate-say
-slice-aggregate-say c = search needs
-
-say-requires : tie.Need-say-requires
-say-requires c κs = search needs
-
-say-two-requires : tie.Need-say-two-requires
-say-two-requires c κs = search needs
-
-slice-aggregate-say-2 : tie.Need-slice-aggregate-say-2
-slice-aggregate-say-2 c = search needs
-
-say-requires-2 : tie.Need-say-requires-2
-say-requires-2 c κs = search needs
-
-same-length : tie.Need-same-length
-same-length c = search needs
-
 returns : tie.Need-returns
 returns c =
     let end = c .before .before in
@@ -34,12 +16,5 @@ returns c =
 
 pub say-y-spec : {M : Type 1} → statement M
 say-y-spec =
-    tie.close
-    (tie.spec
-    slice-aggregate-say
-    say-requires
-    say-two-requires
-    slice-aggregate-say-2
-    say-requires-2
-    same-length
-    returns)
+    tie.close (tie.spec (λ c. search needs) (λ c κs. search needs) (λ c κs. search needs) (λ c. search needs)
+    (λ c κs. search needs) (λ c. search needs) returns)

@@ -6,24 +6,6 @@ use borrow.Author.Needs.{needs}
 use Rattle.audit.proofs.running.map_refused.Statement.{statement}
 use Rattle.audit.proofs.running.map_refused.Tie as tie
 
-slice-aggregate-say : tie.Need-slice-aggregate-say
-slice-aggregate-say c = search needs
-
-say-requires : tie.Need-say-requires
-say-requires c κs = search needs
-
-say-reason-requires : tie.Need-say-reason-requires
-say-reason-requires c κs = search needs
-
-slice-aggregate-say-2 : tie.Need-slice-aggregate-say-2
-slice-aggregate-say-2 c = search needs
-
-say-requires-2 : tie.Need-say-requires-2
-say-requires-2 c κs = search needs
-
-same-length : tie.Need-same-length
-same-length c = search needs
-
 returns : tie.Need-returns
 unfolding mapRefusedText
 returns c =
@@ -37,12 +19,5 @@ returns c =
 
 pub map-refused-spec : {M : Type 1} → statement M
 map-refused-spec =
-    tie.close
-    (tie.spec
-    slice-aggregate-say
-    say-requires
-    say-reason-requires
-    slice-aggregate-say-2
-    say-requires-2
-    same-length
-    returns)
+    tie.close (tie.spec (λ c. search needs) (λ c κs. search needs) (λ c κs. search needs) (λ c. search needs)
+    (λ c κs. search needs) (λ c. search needs) returns)

@@ -8,9 +8,6 @@ use Rattle.audit.proofs.Drawing.{few, drawn-front}
 use Rattle.audit.proofs.symbols.draw.Statement.{statement}
 use Rattle.audit.proofs.symbols.draw.Tie as tie
 
-reached-requires : tie.Need-reached-requires
-reached-requires c κs = search needs
-
 draw-over-requires : tie.Need-draw-over-requires
 draw-over-requires c κs =
     let r = c .before .before .before in
@@ -24,9 +21,6 @@ draw-over-requires c κs =
       s .pre .1,
     )
 
-same-length : tie.Need-same-length
-same-length c = search needs
-
 returns : tie.Need-returns
 returns c =
     let d = c .before .before in
@@ -38,4 +32,4 @@ returns c =
     (r .reached .kept .1 .1 .1 .1 .0 ∙ s .pre .1) (d .draw-over .ensures)
 
 pub draw-spec : {M : Type 1} → statement M
-draw-spec = tie.close (tie.spec reached-requires draw-over-requires same-length returns)
+draw-spec = tie.close (tie.spec (λ c κs. search needs) draw-over-requires (λ c. search needs) returns)

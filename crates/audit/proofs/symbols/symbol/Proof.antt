@@ -18,9 +18,6 @@ returns-3 : tie.Need-returns-3
 unfolding symbolOf
 returns-3 c = rw (ne-eqb _ _ (c .before .before .if1 .left), ne-eqb _ _ (c .before .if2 .left), eq-eqb _ _ (c .if3 .taken))
 
-may-pass-requires : tie.Need-may-pass-requires
-may-pass-requires c κs = search needs
-
 returns-4 : tie.Need-returns-4
 unfolding symbolOf
 returns-4 c =
@@ -44,5 +41,4 @@ returns-5 c =
     )
 
 pub symbol-spec : {M : Type 1} → statement M
-symbol-spec =
-    tie.close (tie.spec returns returns-2 returns-3 may-pass-requires returns-4 returns-5)
+symbol-spec = tie.close (tie.spec returns returns-2 returns-3 (λ c κs. search needs) returns-4 returns-5)

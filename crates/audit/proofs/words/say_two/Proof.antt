@@ -7,23 +7,11 @@ use Rattle.audit.specs.Words.{two}
 use Rattle.audit.proofs.words.say_two.Statement.{statement}
 use Rattle.audit.proofs.words.say_two.Tie as tie
 
-say-spaced-requires : tie.Need-say-spaced-requires
-say-spaced-requires c κs = search needs
-
-same-length : tie.Need-same-length
-same-length c = search needs
-
 returns : tie.Need-returns
 unfolding two
 returns c =
     let said = c .before .before in
     rw (lt-ltb _ _ (said .before .before .if1 .taken)) (said .say-spaced .ensures)
-
-say-number-requires : tie.Need-say-number-requires
-say-number-requires c κs = search needs
-
-same-length-2 : tie.Need-same-length-2
-same-length-2 c = search needs
 
 returns-2 : tie.Need-returns-2
 unfolding two
@@ -34,5 +22,5 @@ returns-2 c =
 
 pub say-two-spec : {M : Type 1} → statement M
 say-two-spec =
-    tie.close
-    (tie.spec say-spaced-requires same-length returns say-number-requires same-length-2 returns-2)
+    tie.close (tie.spec (λ c κs. search needs) (λ c. search needs) returns (λ c κs. search needs) (λ c. search needs)
+    returns-2)

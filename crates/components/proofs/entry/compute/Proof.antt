@@ -6,18 +6,6 @@ use Rattle.components.proofs.Outcomes.{sized, laid-untouched, all-compu
 use Rattle.components.proofs.entry.compute.Statement.{statement}
 use Rattle.components.proofs.entry.compute.Tie as tie
 
-blank-grid-requires : tie.Need-blank-grid-requires
-blank-grid-requires c κs = search needs
-
-slice-aggregate-grid-of : tie.Need-slice-aggregate-grid-of
-slice-aggregate-grid-of c = search needs
-
-grid-of-requires : tie.Need-grid-of-requires
-grid-of-requires c κs = search needs
-
-slice-aggregate-label : tie.Need-slice-aggregate-label
-slice-aggregate-label c = search needs
-
 label-requires : tie.Need-label-requires
 label-requires c κs =
     let m = c .before .before in
@@ -27,21 +15,12 @@ label-requires c κs =
           (m .grid-of .ensures .1),
     )
 
-slice-aggregate-settle : tie.Need-slice-aggregate-settle
-slice-aggregate-settle c = search needs
-
 settle-requires : tie.Need-settle-requires
 settle-requires c κs =
     let l = c .before .before .before in
     let m = l .before .before .before in
     let a = m .before .before .before .before .before .args in
     (λ done. sized (a .s) (now (a .cells)) (a .orientation) (now (a .table)) (a .room) (sym (m .grid-of .ensures .0) ∙ done), l .label .ensures .0 .size)
-
-stored-requires : tie.Need-stored-requires
-stored-requires c κs = search needs
-
-same-length : tie.Need-same-length
-same-length c = search needs
 
 returns : tie.Need-returns
 returns c =
@@ -56,15 +35,5 @@ returns c =
 
 pub compute-spec : {M : Type 1} → statement M
 compute-spec =
-    tie.close
-    (tie.spec
-    blank-grid-requires
-    slice-aggregate-grid-of
-    grid-of-requires
-    slice-aggregate-label
-    label-requires
-    slice-aggregate-settle
-    settle-requires
-    stored-requires
-    same-length
-    returns)
+    tie.close (tie.spec (λ c κs. search needs) (λ c. search needs) (λ c κs. search needs) (λ c. search needs)
+    label-requires (λ c. search needs) settle-requires (λ c κs. search needs) (λ c. search needs) returns)

@@ -24,21 +24,6 @@ front : (S : Sizes) (cells : List ℕ) (o : ℕ) (out : List ℕ) → marksAnswe
 unfolding marksWritten
 front S cells o out e = rw e (take-at (marksOf (mapOf S cells) o) (drop (nodes S) out) (nodes S) (marks-length (mapOf S cells) o))
 
-blank-marks-requires : tie.Need-blank-marks-requires
-blank-marks-requires c κs = search needs
-
-slice-aggregate-marks : tie.Need-slice-aggregate-marks
-slice-aggregate-marks c = search needs
-
-marks-requires : tie.Need-marks-requires
-marks-requires c κs = search needs
-
-enum-told : tie.Need-enum-told
-enum-told c = search needs
-
-enum-told-2 : tie.Need-enum-told-2
-enum-told-2 c = search needs
-
 -- the answer is that of the marks, for a room that suffices
 answered : (c : tie.After-marks) → let a = c .before .before .before .before .before .args in c .marks .result ≡ marksAnswer (a .s) (now (a .cells)) (a .orientation) 4096
 answered c =
@@ -72,9 +57,6 @@ laid c =
     rw (c .nodes .ensures .0, m .marks .ensures .1)
     (front (a .s) (now (a .cells)) (a .orientation) out (sym (m .marks .ensures .0) ∙ c .before .enum-told .given .1))
 
-array-share-prefix-marked : tie.Need-array-share-prefix-marked
-array-share-prefix-marked c = search needs
-
 slice-aggregate-lay : tie.Need-slice-aggregate-lay
 slice-aggregate-lay c =
     let m = c .before .before .before .before .before in
@@ -92,9 +74,6 @@ lay-requires c κs =
       s .pre .1,
     )
 
-same-length : tie.Need-same-length
-same-length c = search needs
-
 returns-2 : tie.Need-returns-2
 returns-2 c =
     let d = c .before .before .before .before .before in
@@ -104,17 +83,6 @@ returns-2 c =
 
 pub grid-of-spec : {M : Type 1} → statement M
 grid-of-spec =
-    tie.close
-    (tie.spec
-    blank-marks-requires
-    slice-aggregate-marks
-    marks-requires
-    enum-told
-    enum-told-2
-    returns
-    nodes-requires
-    array-share-prefix-marked
-    slice-aggregate-lay
-    lay-requires
-    same-length
+    tie.close (tie.spec (λ c κs. search needs) (λ c. search needs) (λ c κs. search needs) (λ c. search needs)
+    (λ c. search needs) returns nodes-requires (λ c. search needs) slice-aggregate-lay lay-requires (λ c. search needs)
     returns-2)

@@ -11,16 +11,10 @@ use Rattle.components.proofs.Outcomes.{settled-refused, settled-granted
 use Rattle.components.proofs.entry.settle.Statement.{statement}
 use Rattle.components.proofs.entry.settle.Tie as tie
 
-enum-known-checked : tie.Need-enum-known-checked
-enum-known-checked c = search needs
-
 returns : tie.Need-returns
 returns c =
     let a = c .before .before .before .before .before .args in
     settled-refused (a .s) (a .checked) (now (a .grid)) (a .count) (a .room) (now (a .table)) _ (rw (c .before .checked .given .1))
-
-enum-told : tie.Need-enum-told
-enum-told c = search needs
 
 nodes-requires : tie.Need-nodes-requires
 nodes-requires c κs = c .before .before .before .before .pre .0 (c .enum-told .given .1)
@@ -49,9 +43,6 @@ copy-out-requires c κs =
     let s = t .before .before .before .before in
     (s .pre .0 (t .enum-told .given .1), s .pre .1, fits (c .before .before))
 
-same-length : tie.Need-same-length
-same-length c = search needs
-
 returns-4 : tie.Need-returns-4
 returns-4 c =
     let w = c .before .before in
@@ -64,14 +55,5 @@ returns-4 c =
 
 pub settle-spec : {M : Type 1} → statement M
 settle-spec =
-    tie.close
-    (tie.spec
-    enum-known-checked
-    returns
-    enum-told
-    nodes-requires
-    returns-2
-    returns-3
-    copy-out-requires
-    same-length
-    returns-4)
+    tie.close (tie.spec (λ c. search needs) returns (λ c. search needs) nodes-requires returns-2 returns-3
+    copy-out-requires (λ c. search needs) returns-4)

@@ -7,17 +7,8 @@ use borrow.Author.Needs.{needs}
 use Rattle.dukthari.proofs.fields.counted.Statement.{statement}
 use Rattle.dukthari.proofs.fields.counted.Tie as tie
 
-enum-known-a : tie.Need-enum-known-a
-enum-known-a c = search needs
-
 cast-count : tie.Need-cast-count
 cast-count c = let h = subst NumberedFits (c .before .a .given .1) (c .before .before .before .pre) in omega arith
-
-enum-known-a-2 : tie.Need-enum-known-a-2
-enum-known-a-2 c = search needs
-
-number-requires : tie.Need-number-requires
-number-requires c κs = search needs
 
 refusal-bad-requires : tie.Need-refusal-bad-requires
 refusal-bad-requires c κs = subst NumberedFits (c .before .before .a2 .given .1) (c .before .before .before .before .pre)
@@ -30,12 +21,5 @@ returns-2 c = rw (c .before .before .before .a2 .given .1, c .refusal-bad .ensur
 
 pub counted-spec : {M : Type 1} → statement M
 counted-spec =
-    tie.close
-    (tie.spec
-    enum-known-a
-    cast-count
-    enum-known-a-2
-    number-requires
-    refusal-bad-requires
-    returns
-    returns-2)
+    tie.close (tie.spec (λ c. search needs) cast-count (λ c. search needs) (λ c κs. search needs) refusal-bad-requires
+    returns returns-2)

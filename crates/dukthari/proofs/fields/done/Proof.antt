@@ -7,15 +7,6 @@ use borrow.Author.Needs.{needs}
 use Rattle.dukthari.proofs.fields.done.Statement.{statement}
 use Rattle.dukthari.proofs.fields.done.Tie as tie
 
-enum-told : tie.Need-enum-told
-enum-told c = search needs
-
-enum-known-a : tie.Need-enum-known-a
-enum-known-a c = search needs
-
-number-requires : tie.Need-number-requires
-number-requires c κs = search needs
-
 refusal-bad-requires : tie.Need-refusal-bad-requires
 refusal-bad-requires c κs = subst (λ (a : Answer). answerBad a ≤ 65536) (c .before .before .a .given .1) (c .before .before .before .before .pre)
 
@@ -27,5 +18,5 @@ returns-2 c = rw (c .before .before .before .a .given .1, c .refusal-bad .ensure
 
 pub done-spec : {M : Type 1} → statement M
 done-spec =
-    tie.close
-    (tie.spec enum-told enum-known-a number-requires refusal-bad-requires returns returns-2)
+    tie.close (tie.spec (λ c. search needs) (λ c. search needs) (λ c κs. search needs) refusal-bad-requires returns
+    returns-2)

@@ -6,20 +6,8 @@ use borrow.Author.Needs.{needs}
 use Rattle.dukthari.proofs.fields.judged.Statement.{statement}
 use Rattle.dukthari.proofs.fields.judged.Tie as tie
 
-enum-known-a : tie.Need-enum-known-a
-enum-known-a c = search needs
-
 cast-hops : tie.Need-cast-hops
 cast-hops c = let h = subst VerdictFits (c .before .a .given .1) (c .before .before .before .pre) in omega arith
-
-cast-t7 : tie.Need-cast-t7
-cast-t7 c = search needs
-
-enum-known-a-2 : tie.Need-enum-known-a-2
-enum-known-a-2 c = search needs
-
-number-requires : tie.Need-number-requires
-number-requires c κs = search needs
 
 refusal-bad-requires : tie.Need-refusal-bad-requires
 refusal-bad-requires c κs = subst VerdictFits (c .before .before .a2 .given .1) (c .before .before .before .before .pre)
@@ -32,13 +20,5 @@ returns-2 c = rw (c .before .before .before .a2 .given .1, c .refusal-bad .ensur
 
 pub judged-spec : {M : Type 1} → statement M
 judged-spec =
-    tie.close
-    (tie.spec
-    enum-known-a
-    cast-hops
-    cast-t7
-    enum-known-a-2
-    number-requires
-    refusal-bad-requires
-    returns
-    returns-2)
+    tie.close (tie.spec (λ c. search needs) cast-hops (λ c. search needs) (λ c. search needs) (λ c κs. search needs)
+    refusal-bad-requires returns returns-2)

@@ -6,9 +6,6 @@ use borrow.Author.Needs.{needs}
 use Rattle.dukthari.proofs.fields.read.Statement.{statement}
 use Rattle.dukthari.proofs.fields.read.Tie as tie
 
-enum-known-a : tie.Need-enum-known-a
-enum-known-a c = search needs
-
 cast-w : tie.Need-cast-w
 cast-w c = let h = subst MapFits (c .before .before .a .given .1) (c .before .before .before .before .pre) in omega (arith, h .w-hi)
 
@@ -17,12 +14,6 @@ cast-h c = let h = subst MapFits (c .before .before .before .a .given .1) (c .be
 
 cast-d : tie.Need-cast-d
 cast-d c = let h = subst MapFits (c .before .before .before .before .a .given .1) (c .before .before .before .before .before .before .pre) in omega (arith, h .d-hi)
-
-enum-known-a-2 : tie.Need-enum-known-a-2
-enum-known-a-2 c = search needs
-
-number-requires : tie.Need-number-requires
-number-requires c κs = search needs
 
 refusal-bad-requires : tie.Need-refusal-bad-requires
 refusal-bad-requires c κs = subst MapFits (c .before .before .a2 .given .1) (c .before .before .before .before .pre)
@@ -35,14 +26,5 @@ returns-2 c = rw (c .before .before .before .a2 .given .1, c .refusal-bad .ensur
 
 pub read-spec : {M : Type 1} → statement M
 read-spec =
-    tie.close
-    (tie.spec
-    enum-known-a
-    cast-w
-    cast-h
-    cast-d
-    enum-known-a-2
-    number-requires
-    refusal-bad-requires
-    returns
-    returns-2)
+    tie.close (tie.spec (λ c. search needs) cast-w cast-h cast-d (λ c. search needs) (λ c κs. search needs)
+    refusal-bad-requires returns returns-2)

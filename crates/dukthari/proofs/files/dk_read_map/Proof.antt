@@ -5,17 +5,11 @@ use borrow.Author.Needs.{needs}
 use Rattle.dukthari.proofs.files.dk_read_map.Statement.{statement}
 use Rattle.dukthari.proofs.files.dk_read_map.Tie as tie
 
-read-map-requires : tie.Need-read-map-requires
-read-map-requires c κs = search needs
-
 read-requires : tie.Need-read-requires
 read-requires c κs = let a = c .before .before in rw (a .read-map .ensures .0) (read-fits _ _)
-
-same-length : tie.Need-same-length
-same-length c = search needs
 
 returns : tie.Need-returns
 returns c = let a = c .before .before .before in (c .read .ensures ∙ (rw (a .read-map .ensures .0)), a .read-map .ensures .1)
 
 pub dk-read-map-spec : {M : Type 1} → statement M
-dk-read-map-spec = tie.close (tie.spec read-map-requires read-requires same-length returns)
+dk-read-map-spec = tie.close (tie.spec (λ c κs. search needs) read-requires (λ c. search needs) returns)

@@ -5,21 +5,12 @@ use borrow.Author.Needs.{needs}
 use Rattle.dukthari.proofs.files.dk_write_map.Statement.{statement}
 use Rattle.dukthari.proofs.files.dk_write_map.Tie as tie
 
-sizes-of-requires : tie.Need-sizes-of-requires
-sizes-of-requires c κs = search needs
-
-write-map-requires : tie.Need-write-map-requires
-write-map-requires c κs = search needs
-
 counted-requires : tie.Need-counted-requires
 counted-requires c κs = let a = c .before .before in rw (a .write-map .ensures .0, a .before .before .sizes-of .ensures) (write-fits _ _ _)
-
-same-length : tie.Need-same-length
-same-length c = search needs
 
 returns : tie.Need-returns
 returns c = let a = c .before .before .before in (c .counted .ensures ∙ (rw (a .write-map .ensures .0, a .before .before .sizes-of .ensures)), rw (← a .before .before .sizes-of .ensures) (a .write-map .ensures .1))
 
 pub dk-write-map-spec : {M : Type 1} → statement M
 dk-write-map-spec =
-    tie.close (tie.spec sizes-of-requires write-map-requires counted-requires same-length returns)
+    tie.close (tie.spec (λ c κs. search needs) (λ c κs. search needs) counted-requires (λ c. search needs) returns)

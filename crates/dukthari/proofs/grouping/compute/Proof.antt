@@ -4,21 +4,12 @@ use borrow.Author.Needs.{needs}
 use Rattle.dukthari.proofs.grouping.compute.Statement.{statement}
 use Rattle.dukthari.proofs.grouping.compute.Tie as tie
 
-sizes-of-requires : tie.Need-sizes-of-requires
-sizes-of-requires c κs = search needs
-
-compute-requires : tie.Need-compute-requires
-compute-requires c κs = search needs
-
 counted-requires : tie.Need-counted-requires
 counted-requires c κs = answer-fits _ _ _ _ _ _ _ (c .before .before .compute .ensures)
-
-same-length : tie.Need-same-length
-same-length c = search needs
 
 returns : tie.Need-returns
 returns c = let a = c .before .before .before .before in grouped _ _ _ _ _ _ _ (a .compute .ensures) _ (a .before .before .sizes-of .ensures) _ (c .before .counted .ensures)
 
 pub compute-spec : {M : Type 1} → statement M
 compute-spec =
-    tie.close (tie.spec sizes-of-requires compute-requires counted-requires same-length returns)
+    tie.close (tie.spec (λ c κs. search needs) (λ c κs. search needs) counted-requires (λ c. search needs) returns)

@@ -5,12 +5,6 @@ use borrow.Author.Needs.{needs}
 use Rattle.dukthari.proofs.states.dk_outstanding.Statement.{statement}
 use Rattle.dukthari.proofs.states.dk_outstanding.Tie as tie
 
-sizes-of-requires : tie.Need-sizes-of-requires
-sizes-of-requires c κs = search needs
-
-outstanding-requires : tie.Need-outstanding-requires
-outstanding-requires c κs = search needs
-
 counted-requires : tie.Need-counted-requires
 counted-requires c κs = rw (c .outstanding .ensures, c .before .sizes-of .ensures) (outstanding-fits _ _ _)
 
@@ -18,5 +12,4 @@ returns : tie.Need-returns
 returns c = c .counted .ensures ∙ (rw (c .before .outstanding .ensures, c .before .before .sizes-of .ensures))
 
 pub dk-outstanding-spec : {M : Type 1} → statement M
-dk-outstanding-spec =
-    tie.close (tie.spec sizes-of-requires outstanding-requires counted-requires returns)
+dk-outstanding-spec = tie.close (tie.spec (λ c κs. search needs) (λ c κs. search needs) counted-requires returns)

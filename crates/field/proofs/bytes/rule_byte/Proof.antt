@@ -3,14 +3,8 @@ use borrow.Author.Needs.{needs}
 use Rattle.field.proofs.bytes.rule_byte.Statement.{statement}
 use Rattle.field.proofs.bytes.rule_byte.Tie as tie
 
-heard-requires : tie.Need-heard-requires
-heard-requires c κs = search needs
-
-ruled-requires : tie.Need-ruled-requires
-ruled-requires c κs = search needs
-
 returns : tie.Need-returns
 returns c = let h = c .before .heard in c .ruled .ensures _ (h .ensures .1) (h .ensures .0)
 
 pub rule-byte-spec : {M : Type 1} → statement M
-rule-byte-spec = tie.close (tie.spec heard-requires ruled-requires returns)
+rule-byte-spec = tie.close (tie.spec (λ c κs. search needs) (λ c κs. search needs) returns)

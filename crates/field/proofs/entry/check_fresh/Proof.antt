@@ -16,27 +16,9 @@ in-order c = sym (c .before .before .check-state .ensures) ∙ c .enum-told .giv
 map-in-order : (c : tie.After-enum-told3) → let a = c .before .before .before .before .before .before .before .args in checkMap (a .s) (now (a .cells)) ≡ Done
 map-in-order c = sym (c .before .before .check-map .ensures) ∙ c .enum-told3 .given .1
 
-check-state-requires : tie.Need-check-state-requires
-check-state-requires c κs = search needs
-
-enum-told : tie.Need-enum-told
-enum-told c = search needs
-
-enum-told-2 : tie.Need-enum-told-2
-enum-told-2 c = search needs
-
 returns : tie.Need-returns
 unfolding freshAnswer
 returns c = let e = c .enum-told2 .given .1 in e ∙ (rw (sym (c .before .before .check-state .ensures) ∙ e))
-
-check-map-requires : tie.Need-check-map-requires
-check-map-requires c κs = search needs
-
-enum-told-3 : tie.Need-enum-told-3
-enum-told-3 c = search needs
-
-enum-told-4 : tie.Need-enum-told-4
-enum-told-4 c = search needs
 
 returns-2 : tie.Need-returns-2
 unfolding freshAnswer
@@ -55,15 +37,5 @@ returns-4 c = let m = c .before in rw (in-order (m .before .before .before), map
 
 pub check-fresh-spec : {M : Type 1} → statement M
 check-fresh-spec =
-    tie.close
-    (tie.spec
-    check-state-requires
-    enum-told
-    enum-told-2
-    returns
-    check-map-requires
-    enum-told-3
-    enum-told-4
-    returns-2
-    returns-3
-    returns-4)
+    tie.close (tie.spec (λ c κs. search needs) (λ c. search needs) (λ c. search needs) returns (λ c κs. search needs)
+    (λ c. search needs) (λ c. search needs) returns-2 returns-3 returns-4)

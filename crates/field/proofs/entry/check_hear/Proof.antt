@@ -46,15 +46,6 @@ asks c =
     ∙ (rw (y .says .ensures) (held-is (a .s) (a .o) (now (a .state)) (sound-iff (a .s) (a .o) (now (a .state)) .0 (holds-true _ .1 (right z))) (a .k) (a .j) (a .word)
     (holds-true _ .1 (paired p)) (given t .word)))
 
-check-numbers-requires : tie.Need-check-numbers-requires
-check-numbers-requires c κs = search needs
-
-enum-told : tie.Need-enum-told
-enum-told c = search needs
-
-enum-told-2 : tie.Need-enum-told-2
-enum-told-2 c = search needs
-
 returns : tie.Need-returns
 unfolding hearAnswer
 returns c = let e = c .enum-told2 .given .1 in e ∙ (rw (sym (c .before .before .check-numbers .ensures) ∙ e))
@@ -84,9 +75,6 @@ cast-unfit c =
     let t = c .before .before .before .before .before in
     omega (arith, word-low (t .before .before .before .before .args .word) (given t .word))
 
-unfit-requires : tie.Need-unfit-requires
-unfit-requires c κs = search needs
-
 returns-4 : tie.Need-returns-4
 unfolding hearAnswer
 returns-4 c =
@@ -105,18 +93,5 @@ returns-5 c =
 
 pub check-hear-spec : {M : Type 1} → statement M
 check-hear-spec =
-    tie.close
-    (tie.spec
-    check-numbers-requires
-    enum-told
-    enum-told-2
-    returns
-    all-right-requires
-    pair-requires
-    returns-2
-    returns-3
-    says-requires
-    cast-unfit
-    unfit-requires
-    returns-4
-    returns-5)
+    tie.close (tie.spec (λ c κs. search needs) (λ c. search needs) (λ c. search needs) returns all-right-requires
+    pair-requires returns-2 returns-3 says-requires cast-unfit (λ c κs. search needs) returns-4 returns-5)

@@ -20,15 +20,6 @@ in-order c = sym (c .before .before .check-question .ensures) ∙ c .enum-told .
 known : (c : tie.Else1) → let a = c .before .before .before .before .before .args in ltb (a .k) (nodes (a .s)) ≡ true
 known c = lt-ltb _ _ (rw (c .before .nodes .ensures .0) at (c .if1 .left))
 
-check-question-requires : tie.Need-check-question-requires
-check-question-requires c κs = search needs
-
-enum-told : tie.Need-enum-told
-enum-told c = search needs
-
-enum-told-2 : tie.Need-enum-told-2
-enum-told-2 c = search needs
-
 returns : tie.Need-returns
 returns c = let e = c .enum-told2 .given .1 in e ∙ (rw (sym (c .before .before .check-question .ensures) ∙ e))
 
@@ -42,9 +33,6 @@ returns-2 c = let n = c .before in rw (in-order (n .before), le-ltb _ _ (rw (n .
 
 returns-3 : tie.Need-returns-3
 returns-3 c = let k = c .before in rw (in-order (k .before .before), known k, lt-leb _ 5 (c .if2 .taken))
-
-is-word-requires : tie.Need-is-word-requires
-is-word-requires c κs = search needs
 
 returns-4 : tie.Need-returns-4
 returns-4 c =
@@ -60,15 +48,5 @@ returns-5 c =
 
 pub check-numbers-spec : {M : Type 1} → statement M
 check-numbers-spec =
-    tie.close
-    (tie.spec
-    check-question-requires
-    enum-told
-    enum-told-2
-    returns
-    nodes-requires
-    returns-2
-    returns-3
-    is-word-requires
-    returns-4
-    returns-5)
+    tie.close (tie.spec (λ c κs. search needs) (λ c. search needs) (λ c. search needs) returns nodes-requires returns-2
+    returns-3 (λ c κs. search needs) returns-4 returns-5)

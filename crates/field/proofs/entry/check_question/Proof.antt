@@ -10,15 +10,6 @@ use Rattle.field.proofs.entry.check_question.Tie as tie
 in-order : (c : tie.After-enum-told) → let a = c .before .before .before .args in checkState (a .s) (a .long) ≡ Done
 in-order c = sym (c .before .before .check-state .ensures) ∙ c .enum-told .given .1
 
-check-state-requires : tie.Need-check-state-requires
-check-state-requires c κs = search needs
-
-enum-told : tie.Need-enum-told
-enum-told c = search needs
-
-enum-told-2 : tie.Need-enum-told-2
-enum-told-2 c = search needs
-
 returns : tie.Need-returns
 returns c = let e = c .enum-told2 .given .1 in e ∙ (rw (sym (c .before .before .check-state .ensures) ∙ e))
 
@@ -30,4 +21,4 @@ returns-3 c = rw (in-order (c .before), le-leb _ 7 (c .if1 .left))
 
 pub check-question-spec : {M : Type 1} → statement M
 check-question-spec =
-    tie.close (tie.spec check-state-requires enum-told enum-told-2 returns returns-2 returns-3)
+    tie.close (tie.spec (λ c κs. search needs) (λ c. search needs) (λ c. search needs) returns returns-2 returns-3)

@@ -12,9 +12,6 @@ use Rattle.field.proofs.entry.check_state.Tie as tie
 sized : (c : tie.Else1) → inRange (c .before .before .args .s) ≡ true
 sized c = sym (c .before .in-range .ensures) ∙ not-false _ (c .if1 .left)
 
-in-range-requires : tie.Need-in-range-requires
-in-range-requires c κs = search needs
-
 returns : tie.Need-returns
 unfolding checkState
 returns c = rw (sym (c .before .in-range .ensures) ∙ not-true _ (c .if1 .taken))
@@ -31,5 +28,4 @@ unfolding checkState
 returns-3 c = rw (sized (c .before .before), eq-eqb _ _ (rw (c .before .state-length .ensures) at (c .if2 .left)))
 
 pub check-state-spec : {M : Type 1} → statement M
-check-state-spec =
-    tie.close (tie.spec in-range-requires returns state-length-requires returns-2 returns-3)
+check-state-spec = tie.close (tie.spec (λ c κs. search needs) returns state-length-requires returns-2 returns-3)

@@ -16,15 +16,6 @@ in-order : (c : tie.After-enum-told)
     → let a = c .before .before .before .before .before .args in freshAnswer (a .s) (now (a .cells)) (a .orientation) (length (now (a .state))) ≡ Done
 in-order c = sym (c .before .before .check-fresh .ensures) ∙ c .enum-told .given .1
 
-check-fresh-requires : tie.Need-check-fresh-requires
-check-fresh-requires c κs = search needs
-
-enum-told : tie.Need-enum-told
-enum-told c = search needs
-
-enum-told-2 : tie.Need-enum-told-2
-enum-told-2 c = search needs
-
 returns : tie.Need-returns
 returns c =
     let k = c .before .before in
@@ -40,9 +31,6 @@ put-fresh-requires c κs =
     let m = map-granted (a .s) (now (a .cells)) map in
     (m .sized, turned, m .whole, long)
 
-same-length : tie.Need-same-length
-same-length c = search needs
-
 returns-2 : tie.Need-returns-2
 returns-2 c =
     let k = c .before .before in
@@ -51,12 +39,5 @@ returns-2 c =
 
 pub fresh-spec : {M : Type 1} → statement M
 fresh-spec =
-    tie.close
-    (tie.spec
-    check-fresh-requires
-    enum-told
-    enum-told-2
-    returns
-    put-fresh-requires
-    same-length
-    returns-2)
+    tie.close (tie.spec (λ c κs. search needs) (λ c. search needs) (λ c. search needs) returns put-fresh-requires
+    (λ c. search needs) returns-2)

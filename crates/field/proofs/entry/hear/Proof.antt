@@ -13,18 +13,6 @@ in-order : (c : tie.After-enum-told)
     → let a = c .before .before .before .before .before .args in hearAnswer (a .s) (a .orientation) (a .listener) (a .direction) (a .word) (now (a .state)) ≡ Done
 in-order c = sym (c .before .before .check-hear .ensures) ∙ c .enum-told .given .1
 
-check-hear-requires : tie.Need-check-hear-requires
-check-hear-requires c κs = search needs
-
-enum-told : tie.Need-enum-told
-enum-told c = search needs
-
-enum-told-2 : tie.Need-enum-told-2
-enum-told-2 c = search needs
-
-same-length : tie.Need-same-length
-same-length c = search needs
-
 returns : tie.Need-returns
 returns c =
     let k = c .before .before in
@@ -36,9 +24,6 @@ returns c =
 take-requires : tie.Need-take-requires
 take-requires c κs = in-order (c .before)
 
-same-length-2 : tie.Need-same-length-2
-same-length-2 c = search needs
-
 returns-2 : tie.Need-returns-2
 returns-2 c =
     let k = c .before .before in
@@ -47,13 +32,5 @@ returns-2 c =
 
 pub hear-spec : {M : Type 1} → statement M
 hear-spec =
-    tie.close
-    (tie.spec
-    check-hear-requires
-    enum-told
-    enum-told-2
-    same-length
-    returns
-    take-requires
-    same-length-2
-    returns-2)
+    tie.close (tie.spec (λ c κs. search needs) (λ c. search needs) (λ c. search needs) (λ c. search needs) returns
+    take-requires (λ c. search needs) returns-2)

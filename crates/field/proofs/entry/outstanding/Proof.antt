@@ -15,18 +15,9 @@ in-order : (c : tie.After-enum-told)
     → let a = c .before .before .before .before .args in checkState (a .s) (length (now (a .state))) andThen checkOrientation (a .orientation) ≡ Done
 in-order c = sym (c .before .before .check-question .ensures) ∙ c .enum-told .given .1
 
-check-question-requires : tie.Need-check-question-requires
-check-question-requires c κs = search needs
-
-enum-known-a : tie.Need-enum-known-a
-enum-known-a c = search needs
-
 returns : tie.Need-returns
 unfolding outstandingAnswer soundAnswer
 returns c = rw (sym (c .before .before .before .check-question .ensures) ∙ c .before .a .given .1)
-
-enum-told : tie.Need-enum-told
-enum-told c = search needs
 
 scan-requires : tie.Need-scan-requires
 scan-requires c κs =
@@ -40,5 +31,4 @@ returns-2 c = c .scan .ensures ∙ (rw (in-order (c .before)))
 
 pub outstanding-spec : {M : Type 1} → statement M
 outstanding-spec =
-    tie.close
-    (tie.spec check-question-requires enum-known-a returns enum-told scan-requires returns-2)
+    tie.close (tie.spec (λ c κs. search needs) (λ c. search needs) returns (λ c. search needs) scan-requires returns-2)

@@ -16,15 +16,6 @@ in-order : (c : tie.After-enum-told)
     → let a = c .before .before .before .before .args in checkState (a .s) (length (now (a .state))) andThen checkOrientation (a .orientation) ≡ Done
 in-order c = sym (c .before .before .check-question .ensures) ∙ c .enum-told .given .1
 
-check-question-requires : tie.Need-check-question-requires
-check-question-requires c κs = search needs
-
-enum-told : tie.Need-enum-told
-enum-told c = search needs
-
-enum-told-2 : tie.Need-enum-told-2
-enum-told-2 c = search needs
-
 returns : tie.Need-returns
 unfolding soundAnswer
 returns c = let e = c .enum-told2 .given .1 in e ∙ (rw (sym (c .before .before .check-question .ensures) ∙ e))
@@ -45,12 +36,5 @@ returns-3 c = let r = c .before in rw (in-order (r .before), sym (r .all-right .
 
 pub sound-spec : {M : Type 1} → statement M
 sound-spec =
-    tie.close
-    (tie.spec
-    check-question-requires
-    enum-told
-    enum-told-2
-    returns
-    all-right-requires
-    returns-2
-    returns-3)
+    tie.close (tie.spec (λ c κs. search needs) (λ c. search needs) (λ c. search needs) returns all-right-requires
+    returns-2 returns-3)

@@ -39,9 +39,6 @@ rule-byte-requires c κs =
 slice-write-state-2 : tie.Need-slice-write-state-2
 slice-write-state-2 c = let g = given (c .before .before .before .before) in simp length-set (omega (arith, g .whole .long))
 
-same-length : tie.Need-same-length
-same-length c = search needs
-
 returns : tie.Need-returns
 returns c =
     let s = c .before .before .before .before in
@@ -50,15 +47,5 @@ returns c =
 
 pub take-spec : {M : Type 1} → statement M
 take-spec =
-    tie.close
-    (tie.spec
-    mul-own
-    add-at
-    add-at-2
-    slice-read-state
-    cast-state
-    slice-write-state
-    rule-byte-requires
-    slice-write-state-2
-    same-length
-    returns)
+    tie.close (tie.spec mul-own add-at add-at-2 slice-read-state cast-state slice-write-state rule-byte-requires
+    slice-write-state-2 (λ c. search needs) returns)

@@ -7,12 +7,6 @@ use Rattle.field.proofs.making.fresh_down.Tie as tie
 sub-faulty-bit : tie.Need-sub-faulty-bit
 sub-faulty-bit c = c .before .before .pre .below (c .if1 .taken)
 
-shared-slice-read-faulty-bit : tie.Need-shared-slice-read-faulty-bit
-shared-slice-read-faulty-bit c = search needs
-
-faulty-bit-requires : tie.Need-faulty-bit-requires
-faulty-bit-requires c κs = search needs
-
 returns : tie.Need-returns
 returns c = rw (lt-ltb _ _ (c .before .before .if1 .taken)) (c .faulty-bit .ensures)
 
@@ -20,6 +14,4 @@ returns-2 : tie.Need-returns-2
 returns-2 c = rw (le-ltb _ _ (c .if1 .left))
 
 pub fresh-down-spec : {M : Type 1} → statement M
-fresh-down-spec =
-    tie.close
-    (tie.spec sub-faulty-bit shared-slice-read-faulty-bit faulty-bit-requires returns returns-2)
+fresh-down-spec = tie.close (tie.spec sub-faulty-bit (λ c. search needs) (λ c κs. search needs) returns returns-2)

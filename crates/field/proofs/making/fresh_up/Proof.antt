@@ -5,17 +5,11 @@ use borrow.Author.Needs.{needs}
 use Rattle.field.proofs.making.fresh_up.Statement.{statement}
 use Rattle.field.proofs.making.fresh_up.Tie as tie
 
-add-if1 : tie.Need-add-if1
-add-if1 c = search needs
-
 add-faulty-bit : tie.Need-add-faulty-bit
 add-faulty-bit c = omega (arith, c .before .before .pre .1 .above (c .if1 .taken))
 
 shared-slice-read-faulty-bit : tie.Need-shared-slice-read-faulty-bit
 shared-slice-read-faulty-bit c = c .before .before .before .pre .1 .above (c .before .if1 .taken)
-
-faulty-bit-requires : tie.Need-faulty-bit-requires
-faulty-bit-requires c κs = search needs
 
 returns : tie.Need-returns
 returns c = rw (lt-ltb _ _ (c .before .before .if1 .taken)) (c .faulty-bit .ensures)
@@ -25,11 +19,5 @@ returns-2 c = rw (le-ltb _ _ (c .if1 .left))
 
 pub fresh-up-spec : {M : Type 1} → statement M
 fresh-up-spec =
-    tie.close
-    (tie.spec
-    add-if1
-    add-faulty-bit
-    shared-slice-read-faulty-bit
-    faulty-bit-requires
-    returns
+    tie.close (tie.spec (λ c. search needs) add-faulty-bit shared-slice-read-faulty-bit (λ c κs. search needs) returns
     returns-2)

@@ -11,30 +11,6 @@ use borrow.Author.Needs.{needs}
 use Rattle.field.proofs.making.put_axis.Statement.{statement}
 use Rattle.field.proofs.making.put_axis.Tie as tie
 
-shared-slice-read-faulty-cell : tie.Need-shared-slice-read-faulty-cell
-shared-slice-read-faulty-cell c = search needs
-
-faulty-cell-requires : tie.Need-faulty-cell-requires
-faulty-cell-requires c κs = search needs
-
-fresh-up-requires : tie.Need-fresh-up-requires
-fresh-up-requires c κs = search needs
-
-heard-by-requires : tie.Need-heard-by-requires
-heard-by-requires c κs = search needs
-
-fresh-down-requires : tie.Need-fresh-down-requires
-fresh-down-requires c κs = search needs
-
-heard-by-requires-2 : tie.Need-heard-by-requires-2
-heard-by-requires-2 c κs = search needs
-
-put-heard-requires : tie.Need-put-heard-requires
-put-heard-requires c κs = search needs
-
-same-length : tie.Need-same-length
-same-length c = search needs
-
 returns : tie.Need-returns
 returns c = λ m p.
     let h = c .before .before in
@@ -51,14 +27,5 @@ returns c = λ m p.
 
 pub put-axis-spec : {M : Type 1} → statement M
 put-axis-spec =
-    tie.close
-    (tie.spec
-    shared-slice-read-faulty-cell
-    faulty-cell-requires
-    fresh-up-requires
-    heard-by-requires
-    fresh-down-requires
-    heard-by-requires-2
-    put-heard-requires
-    same-length
-    returns)
+    tie.close (tie.spec (λ c. search needs) (λ c κs. search needs) (λ c κs. search needs) (λ c κs. search needs)
+    (λ c κs. search needs) (λ c κs. search needs) (λ c κs. search needs) (λ c. search needs) returns)

@@ -48,9 +48,6 @@ held-then z =
     let n = z .before .before .before .before .before .before .before .before .before .before .before in
     held-in n (z .put-axis3 .last .1 .0) (long-kept z)
 
-number-requires : tie.Need-number-requires
-number-requires c κs = search needs
-
 put-axis-requires : tie.Need-put-axis-requires
 put-axis-requires c κs =
     let n = c .before in
@@ -74,20 +71,11 @@ put-axis-requires-3 c κs =
     let n = x .before .before in
     (omega arith, n .before .before .before .pre .2 .z-in, near-on n Z, held-in n _ (y .put-axis2 .kept .1 .0 ∙ x .put-axis .kept .1 .0))
 
-shared-slice-read-faulty-cell : tie.Need-shared-slice-read-faulty-cell
-shared-slice-read-faulty-cell c = search needs
-
-faulty-cell-requires : tie.Need-faulty-cell-requires
-faulty-cell-requires c κs = search needs
-
 rule-byte-requires : tie.Need-rule-byte-requires
 rule-byte-requires c κs =
     let z = c .before .before .before .before .before in
     let s = z .before .before .before .before .before .before .before .before .before .before .before .before .before .before in
     (s .pre .0, s .pre .1, held-then z)
-
-own-by-requires : tie.Need-own-by-requires
-own-by-requires c κs = search needs
 
 mul-state : tie.Need-mul-state
 mul-state c = omega (arith, held-then (c .before .before .before .before .before .before .before) .low)
@@ -118,18 +106,6 @@ returns c =
 
 pub put-node-spec : {M : Type 1} → statement M
 put-node-spec =
-    tie.close
-    (tie.spec
-    number-requires
-    put-axis-requires
-    put-axis-requires-2
-    mul-put-axis
-    put-axis-requires-3
-    shared-slice-read-faulty-cell
-    faulty-cell-requires
-    rule-byte-requires
-    own-by-requires
-    mul-state
-    slice-write-state
-    same-length
-    returns)
+    tie.close (tie.spec (λ c κs. search needs) put-axis-requires put-axis-requires-2 mul-put-axis put-axis-requires-3
+    (λ c. search needs) (λ c κs. search needs) rule-byte-requires (λ c κs. search needs) mul-state slice-write-state
+    same-length returns)

@@ -14,19 +14,10 @@ leads c =
     let a = c .before .before .before .args in
     ap (λ (p : Place). next (a .s) p (a .j)) (sym (c .before .place .ensures)) ∙ sym (c .step .ensures)
 
-place-requires : tie.Need-place-requires
-place-requires c κs = search needs
-
 step-requires : tie.Need-step-requires
 step-requires c κs =
     let s = c .before .before in
     (s .pre .2, s .pre .0, rw (c .place .ensures) (place-in (s .args .s) (s .args .k) (s .pre .1)))
-
-enum-known-q : tie.Need-enum-known-q
-enum-known-q c = search needs
-
-enum-told : tie.Need-enum-told
-enum-told c = search needs
 
 returns : tie.Need-returns
 unfolding linked
@@ -38,4 +29,4 @@ returns-2 c = rw (leads (c .before .before) ∙ c .enum-told .given .1)
 
 pub linked-spec : {M : Type 1} → statement M
 linked-spec =
-    tie.close (tie.spec place-requires step-requires enum-known-q enum-told returns returns-2)
+    tie.close (tie.spec (λ c κs. search needs) step-requires (λ c. search needs) (λ c. search needs) returns returns-2)

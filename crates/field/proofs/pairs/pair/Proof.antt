@@ -10,14 +10,8 @@ use borrow.Author.Needs.{needs}
 use Rattle.field.proofs.pairs.pair.Statement.{statement}
 use Rattle.field.proofs.pairs.pair.Tie as tie
 
-neighbour-requires : tie.Need-neighbour-requires
-neighbour-requires c κs = search needs
-
 faulty-requires : tie.Need-faulty-requires
 faulty-requires c κs = let s = c .before .before in held (s .args .s) (now (s .args .state)) (s .pre .0) (s .args .k) (s .pre .1)
-
-linked-requires : tie.Need-linked-requires
-linked-requires c κs = search needs
 
 faulty-requires-2 : tie.Need-faulty-requires-2
 faulty-requires-2 c κs =
@@ -35,6 +29,4 @@ returns c =
     rw (c .before .before .faulty .ensures, c .before .linked .ensures, c .faulty2 .ensures, e) (sym (pair-is (a .s) (now (a .state)) (a .k) (a .j) (s .pre .1) l))
 
 pub pair-spec : {M : Type 1} → statement M
-pair-spec =
-    tie.close
-    (tie.spec neighbour-requires faulty-requires linked-requires faulty-requires-2 returns)
+pair-spec = tie.close (tie.spec (λ c κs. search needs) faulty-requires (λ c κs. search needs) faulty-requires-2 returns)

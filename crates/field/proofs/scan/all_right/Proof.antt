@@ -18,15 +18,6 @@ refused : (t : Bool) (r q : Refusal) (n : ℕ) → NotNumbered q ≡ numbered (u
 refused false r q n e = refl
 refused true r q n e = let z : _≡_ {A = ℕ} 0 1 = cc in absurd (omega arith)
 
-scan-requires : tie.Need-scan-requires
-scan-requires c κs = search needs
-
-enum-known-n : tie.Need-enum-known-n
-enum-known-n c = search needs
-
-enum-told : tie.Need-enum-told
-enum-told c = search needs
-
 returns : tie.Need-returns
 returns c =
     let n = c .before in
@@ -36,4 +27,4 @@ returns-2 : tie.Need-returns-2
 returns-2 c = refused _ _ _ _ (sym (c .enum-told .given .1) ∙ c .before .before .scan .ensures)
 
 pub all-right-spec : {M : Type 1} → statement M
-all-right-spec = tie.close (tie.spec scan-requires enum-known-n enum-told returns returns-2)
+all-right-spec = tie.close (tie.spec (λ c κs. search needs) (λ c. search needs) (λ c. search needs) returns returns-2)

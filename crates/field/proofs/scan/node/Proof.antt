@@ -12,46 +12,16 @@ use borrow.Author.Needs.{needs}
 use Rattle.field.proofs.scan.node.Statement.{statement}
 use Rattle.field.proofs.scan.node.Tie as tie
 
-number-requires : tie.Need-number-requires
-number-requires c κs = search needs
-
-mul-own : tie.Need-mul-own
-mul-own c = search needs
-
-shared-slice-read-own : tie.Need-shared-slice-read-own
-shared-slice-read-own c = search needs
-
 heard-requires : tie.Need-heard-requires
 heard-requires c κs =
     let n = c .before in
     let s = n .before .before in
     held (s .args .s) (now (s .args .state)) (s .pre .0) (n .number .result) (n .number .ensures .1)
 
-shown-requires : tie.Need-shown-requires
-shown-requires c κs = search needs
-
-faulty-hears-requires : tie.Need-faulty-hears-requires
-faulty-hears-requires c κs = search needs
-
-cast-faulty : tie.Need-cast-faulty
-cast-faulty c = search needs
-
-mul-faulty : tie.Need-mul-faulty
-mul-faulty c = search needs
-
-mul-sides : tie.Need-mul-sides
-mul-sides c = search needs
-
-ruled-requires : tie.Need-ruled-requires
-ruled-requires c κs = search needs
-
 cast-wrong : tie.Need-cast-wrong
 cast-wrong c =
     let o = c .before .before .before in
     omega (arith, o .shared-slice-known2 .given (7 * o .before .number .result) .fits)
-
-cast-wrong-2 : tie.Need-cast-wrong-2
-cast-wrong-2 c = search needs
 
 some-requires : tie.Need-some-requires
 some-requires c κs =
@@ -104,20 +74,6 @@ returns-2 c =
 
 pub node-spec : {M : Type 1} → statement M
 node-spec =
-    tie.close
-    (tie.spec
-    number-requires
-    mul-own
-    shared-slice-read-own
-    heard-requires
-    shown-requires
-    faulty-hears-requires
-    cast-faulty
-    mul-faulty
-    mul-sides
-    cast-wrong
-    ruled-requires
-    cast-wrong-2
-    some-requires
-    returns
-    returns-2)
+    tie.close (tie.spec (λ c κs. search needs) (λ c. search needs) (λ c. search needs) heard-requires
+    (λ c κs. search needs) (λ c κs. search needs) (λ c. search needs) (λ c. search needs) (λ c. search needs) cast-wrong
+    (λ c κs. search needs) (λ c. search needs) some-requires returns returns-2)

@@ -39,9 +39,6 @@ shown-up-requires-3 c κs = let s = c .before .before .before .before .before .b
 shown-down-requires-3 : tie.Need-shown-down-requires-3
 shown-down-requires-3 c κs = near-on (c .before .before .before .before .before .before .before) Z
 
-six-requires : tie.Need-six-requires
-six-requires c κs = search needs
-
 returns : tie.Need-returns
 returns c =
     let dz = c .before in
@@ -72,14 +69,5 @@ returns c =
 
 pub shown-spec : {M : Type 1} → statement M
 shown-spec =
-    tie.close
-    (tie.spec
-    mul-layer
-    shown-up-requires
-    shown-down-requires
-    shown-up-requires-2
-    shown-down-requires-2
-    shown-up-requires-3
-    shown-down-requires-3
-    six-requires
-    returns)
+    tie.close (tie.spec mul-layer shown-up-requires shown-down-requires shown-up-requires-2 shown-down-requires-2
+    shown-up-requires-3 shown-down-requires-3 (λ c κs. search needs) returns)

@@ -7,12 +7,6 @@ use Rattle.field.proofs.scan.shown_down.Tie as tie
 sub-result : tie.Need-sub-result
 sub-result c = c .before .pre .below (c .if1 .taken)
 
-mul-result : tie.Need-mul-result
-mul-result c = search needs
-
-shared-slice-read-result : tie.Need-shared-slice-read-result
-shared-slice-read-result c = search needs
-
 returns : tie.Need-returns
 returns c = rw (lt-ltb _ _ (c .before .if1 .taken))
 
@@ -20,5 +14,4 @@ returns-2 : tie.Need-returns-2
 returns-2 c = rw (le-ltb _ _ (c .if1 .left))
 
 pub shown-down-spec : {M : Type 1} → statement M
-shown-down-spec =
-    tie.close (tie.spec sub-result mul-result shared-slice-read-result returns returns-2)
+shown-down-spec = tie.close (tie.spec sub-result (λ c. search needs) (λ c. search needs) returns returns-2)

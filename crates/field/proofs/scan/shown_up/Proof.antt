@@ -5,9 +5,6 @@ use borrow.Author.Needs.{needs}
 use Rattle.field.proofs.scan.shown_up.Statement.{statement}
 use Rattle.field.proofs.scan.shown_up.Tie as tie
 
-add-if1 : tie.Need-add-if1
-add-if1 c = search needs
-
 add-result : tie.Need-add-result
 add-result c = omega (arith, c .before .pre .1 .above (c .if1 .taken))
 
@@ -25,4 +22,4 @@ returns-2 c = rw (le-ltb _ _ (c .if1 .left))
 
 pub shown-up-spec : {M : Type 1} → statement M
 shown-up-spec =
-    tie.close (tie.spec add-if1 add-result mul-result shared-slice-read-result returns returns-2)
+    tie.close (tie.spec (λ c. search needs) add-result mul-result shared-slice-read-result returns returns-2)

@@ -7,14 +7,8 @@ use borrow.Author.Needs.{needs}
 use Rattle.field.proofs.six.some.Statement.{statement}
 use Rattle.field.proofs.six.some.Tie as tie
 
-mul-most : tie.Need-mul-most
-mul-most c = search needs
-
 add-result : tie.Need-add-result
 add-result c = omega (arith, and-le-r (c .args .bytes) 140185576636287)
-
-mul-result : tie.Need-mul-result
-mul-result c = search needs
 
 returns : tie.Need-returns
 returns c =
@@ -22,4 +16,4 @@ returns c =
     (λ h l e. rw e (some-six h l), omega (arith, and-le-r (bitOr (bitAnd b 140185576636287 + 140185576636287) b) 141289400074368))
 
 pub some-spec : {M : Type 1} → statement M
-some-spec = tie.close (tie.spec mul-most add-result mul-result returns)
+some-spec = tie.close (tie.spec (λ c. search needs) add-result (λ c. search needs) returns)

@@ -27,20 +27,8 @@ asks c h b e =
     let a = c .before .args in
     stuck-is (a .s) (c .before .pre .0) (a .o) (a .part) (c .before .pre .1) h b (a .heard) (c .ahead .result) e (c .ahead .ensures .0)
 
-ahead-requires : tie.Need-ahead-requires
-ahead-requires c κs = search needs
-
-mul-eights : tie.Need-mul-eights
-mul-eights c = search needs
-
-add-blocked : tie.Need-add-blocked
-add-blocked c = search needs
-
 mul-blocked : tie.Need-mul-blocked
 mul-blocked c = omega (arith, product c)
-
-sub-blocked : tie.Need-sub-blocked
-sub-blocked c = search needs
 
 add-blocked-2 : tie.Need-add-blocked-2
 add-blocked-2 c = omega (arith, product c, and-le-r (c .before .args .heard) ((c .before .args .part + 1) * c .ahead .result))
@@ -53,13 +41,5 @@ returns-2 c = (λ h b e. ap bit (sym (ne-eqb _ _ (c .if1 .left)) ∙ asks (c .be
 
 pub stuck-spec : {M : Type 1} → statement M
 stuck-spec =
-    tie.close
-    (tie.spec
-    ahead-requires
-    mul-eights
-    add-blocked
-    mul-blocked
-    sub-blocked
-    add-blocked-2
-    returns
-    returns-2)
+    tie.close (tie.spec (λ c κs. search needs) (λ c. search needs) (λ c. search needs) mul-blocked (λ c. search needs)
+    add-blocked-2 returns returns-2)

@@ -7,12 +7,9 @@ use borrow.Author.Needs.{needs}
 use Rattle.gossiping.proofs.chance.chosen.Statement.{statement}
 use Rattle.gossiping.proofs.chance.chosen.Tie as tie
 
-rem-result : tie.Need-rem-result
-rem-result c = search needs
-
 returns : tie.Need-returns
 unfolding chosen
 returns c = (refl, mod-lt (c .args .g / 65536) (c .pre))
 
 pub chosen-spec : {M : Type 1} → statement M
-chosen-spec = tie.close (tie.spec rem-result returns)
+chosen-spec = tie.close (tie.spec (λ c. search needs) returns)

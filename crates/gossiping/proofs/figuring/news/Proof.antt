@@ -6,15 +6,6 @@ use borrow.Author.Needs.{needs}
 use Rattle.gossiping.proofs.figuring.news.Statement.{statement}
 use Rattle.gossiping.proofs.figuring.news.Tie as tie
 
-outstanding-requires : tie.Need-outstanding-requires
-outstanding-requires c κs = search needs
-
-enum-known-a : tie.Need-enum-known-a
-enum-known-a c = search needs
-
-enum-told : tie.Need-enum-told
-enum-told c = search needs
-
 returns : tie.Need-returns
 returns c =
     let q = c .before .before in
@@ -30,4 +21,4 @@ returns-2 c =
     the-number (a .s) (a .o) (now (a .state)) (s .pre) (c .before .a .given .0 .0) (sym (q .outstanding .ensures) ∙ c .before .a .given .1)
 
 pub news-spec : {M : Type 1} → statement M
-news-spec = tie.close (tie.spec outstanding-requires enum-known-a enum-told returns returns-2)
+news-spec = tie.close (tie.spec (λ c κs. search needs) (λ c. search needs) (λ c. search needs) returns returns-2)

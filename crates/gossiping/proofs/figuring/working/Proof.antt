@@ -10,9 +10,6 @@ use Rattle.gossiping.proofs.figuring.working.Tie as tie
 nodes-requires : tie.Need-nodes-requires
 nodes-requires c κs = let s = c .before in map-granted (s .args .s) (now (s .args .cells)) (s .pre) .sized
 
-count-faulty-requires : tie.Need-count-faulty-requires
-count-faulty-requires c κs = search needs
-
 sub-result : tie.Need-sub-result
 sub-result c =
     let n = c .before in
@@ -26,4 +23,4 @@ returns c =
     (omega (arith, n .nodes .ensures .0, c .count-faulty .ensures, workers-counted (s .args .s) (now (s .args .cells)) (s .pre)), omega arith)
 
 pub working-spec : {M : Type 1} → statement M
-working-spec = tie.close (tie.spec nodes-requires count-faulty-requires sub-result returns)
+working-spec = tie.close (tie.spec nodes-requires (λ c κs. search needs) sub-result returns)

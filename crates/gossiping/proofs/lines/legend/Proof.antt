@@ -6,21 +6,6 @@ use borrow.Author.Needs.{needs}
 use Rattle.gossiping.proofs.lines.legend.Statement.{statement}
 use Rattle.gossiping.proofs.lines.legend.Tie as tie
 
-slice-aggregate-say-both : tie.Need-slice-aggregate-say-both
-slice-aggregate-say-both c = search needs
-
-say-both-requires : tie.Need-say-both-requires
-say-both-requires c κs = search needs
-
-slice-aggregate-say : tie.Need-slice-aggregate-say
-slice-aggregate-say c = search needs
-
-say-requires : tie.Need-say-requires
-say-requires c κs = search needs
-
-same-length : tie.Need-same-length
-same-length c = search needs
-
 returns : tie.Need-returns
 unfolding legend
 returns c =
@@ -34,11 +19,5 @@ returns c =
 
 pub legend-spec : {M : Type 1} → statement M
 legend-spec =
-    tie.close
-    (tie.spec
-    slice-aggregate-say-both
-    say-both-requires
-    slice-aggregate-say
-    say-requires
-    same-length
-    returns)
+    tie.close (tie.spec (λ c. search needs) (λ c κs. search needs) (λ c. search needs) (λ c κs. search needs)
+    (λ c. search needs) returns)

@@ -17,21 +17,6 @@ full-word r h = rw (lt-leb r 8 h)
 lossy-word : (r : ℕ) → r ≤ 8 → ascii "round " ≡ roundWord r
 lossy-word r h = rw (le-leb r 8 h)
 
-slice-aggregate-three : tie.Need-slice-aggregate-three
-slice-aggregate-three c = search needs
-
-slice-aggregate-three-2 : tie.Need-slice-aggregate-three-2
-slice-aggregate-three-2 c = search needs
-
-slice-aggregate-three-3 : tie.Need-slice-aggregate-three-3
-slice-aggregate-three-3 c = search needs
-
-three-requires : tie.Need-three-requires
-three-requires c κs = search needs
-
-same-length : tie.Need-same-length
-same-length c = search needs
-
 returns : tie.Need-returns
 unfolding roundLine
 returns c =
@@ -40,21 +25,6 @@ returns c =
     let a = t .before .before .args in
     let e = ap (λ (w : List ℕ). threeOnLine w (a .r) (ascii " outstanding ") (a .news) (ascii " marks ") (a .marks)) (full-word (a .r) (t .if1 .taken)) in
     (said-as e (line .three .ensures .0), omega (arith, line .three .ensures .1))
-
-slice-aggregate-three-4 : tie.Need-slice-aggregate-three-4
-slice-aggregate-three-4 c = search needs
-
-slice-aggregate-three-5 : tie.Need-slice-aggregate-three-5
-slice-aggregate-three-5 c = search needs
-
-slice-aggregate-three-6 : tie.Need-slice-aggregate-three-6
-slice-aggregate-three-6 c = search needs
-
-three-requires-2 : tie.Need-three-requires-2
-three-requires-2 c κs = search needs
-
-same-length-2 : tie.Need-same-length-2
-same-length-2 c = search needs
 
 returns-2 : tie.Need-returns-2
 unfolding roundLine
@@ -67,17 +37,6 @@ returns-2 c =
 
 pub round-line-spec : {M : Type 1} → statement M
 round-line-spec =
-    tie.close
-    (tie.spec
-    slice-aggregate-three
-    slice-aggregate-three-2
-    slice-aggregate-three-3
-    three-requires
-    same-length
-    returns
-    slice-aggregate-three-4
-    slice-aggregate-three-5
-    slice-aggregate-three-6
-    three-requires-2
-    same-length-2
-    returns-2)
+    tie.close (tie.spec (λ c. search needs) (λ c. search needs) (λ c. search needs) (λ c κs. search needs)
+    (λ c. search needs) returns (λ c. search needs) (λ c. search needs) (λ c. search needs) (λ c κs. search needs)
+    (λ c. search needs) returns-2)

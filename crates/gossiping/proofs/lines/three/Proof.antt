@@ -6,18 +6,6 @@ use borrow.Author.Needs.{needs}
 use Rattle.gossiping.proofs.lines.three.Statement.{statement}
 use Rattle.gossiping.proofs.lines.three.Tie as tie
 
-say-both-requires : tie.Need-say-both-requires
-say-both-requires c κs = search needs
-
-slice-aggregate-two : tie.Need-slice-aggregate-two
-slice-aggregate-two c = search needs
-
-two-requires : tie.Need-two-requires
-two-requires c κs = search needs
-
-same-length : tie.Need-same-length
-same-length c = search needs
-
 returns : tie.Need-returns
 unfolding threeOnLine
 returns c =
@@ -29,4 +17,5 @@ returns c =
     (said-next (omega (arith, s .pre, one .0 .place, one .1)) (one .0) (two .0), omega (arith, one .1, two .1))
 
 pub three-spec : {M : Type 1} → statement M
-three-spec = tie.close (tie.spec say-both-requires slice-aggregate-two two-requires same-length returns)
+three-spec =
+    tie.close (tie.spec (λ c κs. search needs) (λ c. search needs) (λ c κs. search needs) (λ c. search needs) returns)

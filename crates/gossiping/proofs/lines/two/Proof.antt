@@ -6,18 +6,6 @@ use borrow.Author.Needs.{needs}
 use Rattle.gossiping.proofs.lines.two.Statement.{statement}
 use Rattle.gossiping.proofs.lines.two.Tie as tie
 
-say-both-requires : tie.Need-say-both-requires
-say-both-requires c κs = search needs
-
-say-both-requires-2 : tie.Need-say-both-requires-2
-say-both-requires-2 c κs = search needs
-
-say-requires : tie.Need-say-requires
-say-requires c κs = search needs
-
-same-length : tie.Need-same-length
-same-length c = search needs
-
 returns : tie.Need-returns
 unfolding twoOnLine
 returns c =
@@ -35,10 +23,5 @@ returns c =
 
 pub two-spec : {M : Type 1} → statement M
 two-spec =
-    tie.close
-    (tie.spec
-    say-both-requires
-    say-both-requires-2
-    say-requires
-    same-length
+    tie.close (tie.spec (λ c κs. search needs) (λ c κs. search needs) (λ c κs. search needs) (λ c. search needs)
     returns)

@@ -7,15 +7,6 @@ use borrow.Author.Needs.{needs}
 use Rattle.gossiping.proofs.links.say.Statement.{statement}
 use Rattle.gossiping.proofs.links.say.Tie as tie
 
-saying-requires : tie.Need-saying-requires
-saying-requires c κs = search needs
-
-tell-requires : tie.Need-tell-requires
-tell-requires c κs = search needs
-
-same-length : tie.Need-same-length
-same-length c = search needs
-
 returns : tie.Need-returns
 returns c =
     let told = c .before .before in
@@ -24,4 +15,4 @@ returns c =
     told .tell .ensures ∙ ap (λ (w : ℕ). comes (a .s) (a .o) (a .link) w (now (a .state))) (word .saying .ensures)
 
 pub say-spec : {M : Type 1} → statement M
-say-spec = tie.close (tie.spec saying-requires tell-requires same-length returns)
+say-spec = tie.close (tie.spec (λ c κs. search needs) (λ c κs. search needs) (λ c. search needs) returns)

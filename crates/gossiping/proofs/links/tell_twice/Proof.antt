@@ -9,12 +9,6 @@ use borrow.Author.Needs.{needs}
 use Rattle.gossiping.proofs.links.tell_twice.Statement.{statement}
 use Rattle.gossiping.proofs.links.tell_twice.Tie as tie
 
-brings-requires : tie.Need-brings-requires
-brings-requires c κs = search needs
-
-same-length : tie.Need-same-length
-same-length c = search needs
-
 returns : tie.Need-returns
 returns c =
     let s = c .before .before .before .before in
@@ -23,15 +17,6 @@ returns c =
     nothing-new (a .s) (a .o) (now (a .state)) (s .pre .0) (a .link / 6) (a .link % 6) (a .word)
     (sym (c .before .brings .ensures) ∙ not-true _ (c .if1 .taken)) in
     sym (ap (comes (a .s) (a .o) (a .link) (a .word)) e ∙ e)
-
-hear-requires : tie.Need-hear-requires
-hear-requires c κs = search needs
-
-hear-requires-2 : tie.Need-hear-requires-2
-hear-requires-2 c κs = search needs
-
-same-length-2 : tie.Need-same-length-2
-same-length-2 c = search needs
 
 returns-2 : tie.Need-returns-2
 returns-2 c =
@@ -42,12 +27,5 @@ returns-2 c =
 
 pub tell-twice-spec : {M : Type 1} → statement M
 tell-twice-spec =
-    tie.close
-    (tie.spec
-    brings-requires
-    same-length
-    returns
-    hear-requires
-    hear-requires-2
-    same-length-2
-    returns-2)
+    tie.close (tie.spec (λ c κs. search needs) (λ c. search needs) returns (λ c κs. search needs) (λ c κs. search needs)
+    (λ c. search needs) returns-2)

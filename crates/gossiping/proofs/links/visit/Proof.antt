@@ -7,27 +7,12 @@ use borrow.Author.Needs.{needs}
 use Rattle.gossiping.proofs.links.visit.Statement.{statement}
 use Rattle.gossiping.proofs.links.visit.Tie as tie
 
-following-requires : tie.Need-following-requires
-following-requires c κs = search needs
-
-chosen-requires : tie.Need-chosen-requires
-chosen-requires c κs = search needs
-
 returns : tie.Need-returns
 returns c =
     let k = c .before in
     let a = k .before .before .before .before .args in
     visited (a .s) (a .o) (net (now (a .state)) (now (a .way)) (a .drawn)) (a .link) (k .before .following .result) (k .chosen .result) lost
     (k .before .following .ensures .0) (k .chosen .ensures .0) (is-lost (k .chosen .result) (c .if1 .taken))
-
-swap-requires : tie.Need-swap-requires
-swap-requires c κs = search needs
-
-same-length : tie.Need-same-length
-same-length c = search needs
-
-same-length-2 : tie.Need-same-length-2
-same-length-2 c = search needs
 
 returns-2 : tie.Need-returns-2
 returns-2 c =
@@ -39,15 +24,6 @@ returns-2 c =
     rw (done .swap .ensures .0, done .swap .ensures .1)
     (visited (a .s) (a .o) (net (now (a .state)) (now (a .way)) (a .drawn)) (a .link) (k .before .following .result) (k .chosen .result) late
     (k .before .following .ensures .0) (k .chosen .ensures .0) (is-late (k .chosen .result) (e .if1 .left) (t .if2 .taken)))
-
-saying-requires : tie.Need-saying-requires
-saying-requires c κs = search needs
-
-tell-twice-requires : tie.Need-tell-twice-requires
-tell-twice-requires c κs = search needs
-
-same-length-3 : tie.Need-same-length-3
-same-length-3 c = search needs
 
 returns-3 : tie.Need-returns-3
 returns-3 c =
@@ -61,12 +37,6 @@ returns-3 c =
     (visited (a .s) (a .o) (net (now (a .state)) (now (a .way)) (a .drawn)) (a .link) (k .before .following .result) (k .chosen .result) twice
     (k .before .following .ensures .0) (k .chosen .ensures .0) (is-twice (k .chosen .result) (e .if2 .left) (t .if3 .taken)))
 
-say-requires : tie.Need-say-requires
-say-requires c κs = search needs
-
-same-length-4 : tie.Need-same-length-4
-same-length-4 c = search needs
-
 returns-4 : tie.Need-returns-4
 returns-4 c =
     let done = c .before .before in
@@ -79,19 +49,6 @@ returns-4 c =
 
 pub visit-spec : {M : Type 1} → statement M
 visit-spec =
-    tie.close
-    (tie.spec
-    following-requires
-    chosen-requires
-    returns
-    swap-requires
-    same-length
-    same-length-2
-    returns-2
-    saying-requires
-    tell-twice-requires
-    same-length-3
-    returns-3
-    say-requires
-    same-length-4
-    returns-4)
+    tie.close (tie.spec (λ c κs. search needs) (λ c κs. search needs) returns (λ c κs. search needs) (λ c. search needs)
+    (λ c. search needs) returns-2 (λ c κs. search needs) (λ c κs. search needs) (λ c. search needs) returns-3
+    (λ c κs. search needs) (λ c. search needs) returns-4)

@@ -7,12 +7,6 @@ use borrow.Author.Needs.{needs}
 use Rattle.gossiping.proofs.rounds.links.Statement.{statement}
 use Rattle.gossiping.proofs.rounds.links.Tie as tie
 
-nodes-requires : tie.Need-nodes-requires
-nodes-requires c κs = search needs
-
-mul-result : tie.Need-mul-result
-mul-result c = search needs
-
 returns : tie.Need-returns
 returns c =
     let s = c .before in
@@ -20,4 +14,4 @@ returns c =
     (ap (λ (n : ℕ). 6 * n) e, omega (arith, some-nodes (s .args .s) (s .pre)), omega arith)
 
 pub links-spec : {M : Type 1} → statement M
-links-spec = tie.close (tie.spec nodes-requires mul-result returns)
+links-spec = tie.close (tie.spec (λ c κs. search needs) (λ c. search needs) returns)

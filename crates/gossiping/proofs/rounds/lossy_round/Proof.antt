@@ -9,30 +9,6 @@ use borrow.Author.Needs.{needs}
 use Rattle.gossiping.proofs.rounds.lossy_round.Statement.{statement}
 use Rattle.gossiping.proofs.rounds.lossy_round.Tie as tie
 
-following-requires : tie.Need-following-requires
-following-requires c κs = search needs
-
-following-requires-2 : tie.Need-following-requires-2
-following-requires-2 c κs = search needs
-
-links-requires : tie.Need-links-requires
-links-requires c κs = search needs
-
-chosen-requires : tie.Need-chosen-requires
-chosen-requires c κs = search needs
-
-stride-requires : tie.Need-stride-requires
-stride-requires c κs = search needs
-
-visits-requires : tie.Need-visits-requires
-visits-requires c κs = search needs
-
-same-length : tie.Need-same-length
-same-length c = search needs
-
-same-length-2 : tie.Need-same-length-2
-same-length-2 c = search needs
-
 returns : tie.Need-returns
 returns c =
     let done = c .before .before .before .before in
@@ -49,14 +25,5 @@ returns c =
 
 pub lossy-round-spec : {M : Type 1} → statement M
 lossy-round-spec =
-    tie.close
-    (tie.spec
-    following-requires
-    following-requires-2
-    links-requires
-    chosen-requires
-    stride-requires
-    visits-requires
-    same-length
-    same-length-2
-    returns)
+    tie.close (tie.spec (λ c κs. search needs) (λ c κs. search needs) (λ c κs. search needs) (λ c κs. search needs)
+    (λ c κs. search needs) (λ c κs. search needs) (λ c. search needs) (λ c. search needs) returns)

@@ -5,27 +5,12 @@ use borrow.Author.Needs.{needs}
 use Rattle.gossiping.proofs.rounds.one_round.Statement.{statement}
 use Rattle.gossiping.proofs.rounds.one_round.Tie as tie
 
-lossy-round-requires : tie.Need-lossy-round-requires
-lossy-round-requires c κs = search needs
-
-same-length : tie.Need-same-length
-same-length c = search needs
-
-same-length-2 : tie.Need-same-length-2
-same-length-2 c = search needs
-
 returns : tie.Need-returns
 unfolding oneRound
 returns c =
     let done = c .before .before .before .before in
     let t = done .before .before .before in
     rw (lt-ltb _ _ (t .if1 .taken)) (done .lossy-round .ensures)
-
-full-round-requires : tie.Need-full-round-requires
-full-round-requires c κs = search needs
-
-same-length-3 : tie.Need-same-length-3
-same-length-3 c = search needs
 
 returns-2 : tie.Need-returns-2
 unfolding oneRound
@@ -36,12 +21,5 @@ returns-2 c =
 
 pub one-round-spec : {M : Type 1} → statement M
 one-round-spec =
-    tie.close
-    (tie.spec
-    lossy-round-requires
-    same-length
-    same-length-2
-    returns
-    full-round-requires
-    same-length-3
-    returns-2)
+    tie.close (tie.spec (λ c κs. search needs) (λ c. search needs) (λ c. search needs) returns (λ c κs. search needs)
+    (λ c. search needs) returns-2)

@@ -14,19 +14,10 @@ low : (k : ℕ) → k < 4 → getD strides k 0 ≤ 24631
 unfolding all
 low k h = T-le (getD strides k 0) 24631 .0 (T-all 4 (λ k. leb (getD strides k 0) 24631) .0 tt k h)
 
-chosen-requires : tie.Need-chosen-requires
-chosen-requires c κs = search needs
-
-mul-result : tie.Need-mul-result
-mul-result c = search needs
-
-array-read-result : tie.Need-array-read-result
-array-read-result c = search needs
-
 returns : tie.Need-returns
 returns c =
     let k = c .chosen .result in
     (ap (λ (i : ℕ). getD strides i 0) (c .chosen .ensures .0), low k (c .chosen .ensures .1))
 
 pub stride-spec : {M : Type 1} → statement M
-stride-spec = tie.close (tie.spec chosen-requires mul-result array-read-result returns)
+stride-spec = tie.close (tie.spec (λ c κs. search needs) (λ c. search needs) (λ c. search needs) returns)

@@ -6,18 +6,6 @@ use borrow.Author.Needs.{needs}
 use Rattle.gossiping.proofs.talking.tell_round.Statement.{statement}
 use Rattle.gossiping.proofs.talking.tell_round.Tie as tie
 
-news-requires : tie.Need-news-requires
-news-requires c κs = search needs
-
-marks-held-requires : tie.Need-marks-held-requires
-marks-held-requires c κs = search needs
-
-round-line-requires : tie.Need-round-line-requires
-round-line-requires c κs = search needs
-
-same-length : tie.Need-same-length
-same-length c = search needs
-
 returns : tie.Need-returns
 returns c =
     let line = c .before .before in
@@ -29,4 +17,5 @@ returns c =
 
 pub tell-round-spec : {M : Type 1} → statement M
 tell-round-spec =
-    tie.close (tie.spec news-requires marks-held-requires round-line-requires same-length returns)
+    tie.close (tie.spec (λ c κs. search needs) (λ c κs. search needs) (λ c κs. search needs) (λ c. search needs)
+    returns)

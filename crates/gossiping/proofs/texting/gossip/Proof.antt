@@ -43,26 +43,11 @@ cells-are c =
     ∙ ap (take (nodes (told .before .s .given .0 .0))) (read .read-map .ensures .1)
     ∙ in-front file 4096 (told .before .s .given .0 .0) (answer-is told) (made .blank-cells .result) (made .blank-cells .ensures)
 
-blank-cells-requires : tie.Need-blank-cells-requires
-blank-cells-requires c κs = search needs
-
-slice-aggregate-read-map : tie.Need-slice-aggregate-read-map
-slice-aggregate-read-map c = search needs
-
-read-map-requires : tie.Need-read-map-requires
-read-map-requires c κs = search needs
-
-enum-known-s : tie.Need-enum-known-s
-enum-known-s c = search needs
-
 nodes-requires : tie.Need-nodes-requires
 nodes-requires c κs =
     let file = now (c .before .before .before .before .before .before .before .before .before .args .file) in
     let S = c .before .s .given .0 .0 in
     in-range file 4096 S (answer-is c)
-
-array-share-prefix-cells : tie.Need-array-share-prefix-cells
-array-share-prefix-cells c = search needs
 
 slice-aggregate-map-text : tie.Need-slice-aggregate-map-text
 slice-aggregate-map-text c =
@@ -79,15 +64,6 @@ map-text-requires c κs =
     let S = told .before .s .given .0 .0 in
     (ap (checkMap S) (cells-are n) ∙ in-order (now (s .args .file)) 4096 S (answer-is told), s .pre)
 
-enum-told : tie.Need-enum-told
-enum-told c = search needs
-
-report-requires : tie.Need-report-requires
-report-requires c κs = search needs
-
-same-length : tie.Need-same-length
-same-length c = search needs
-
 returns : tie.Need-returns
 returns c =
     let called = c .before .before in
@@ -97,9 +73,6 @@ returns c =
     let S = told .before .s .given .0 .0 in
     let e = ap (λ (l : List ℕ). mapText (mapOf S l)) (cells-are n) ∙ map-told (now (a .file)) S (answer-is told) in
     (said-as e (called .map-text .ensures .0), called .map-text .ensures .1)
-
-same-length-2 : tie.Need-same-length-2
-same-length-2 c = search needs
 
 returns-2 : tie.Need-returns-2
 returns-2 c =
@@ -115,19 +88,6 @@ returns-2 c =
 
 pub gossip-spec : {M : Type 1} → statement M
 gossip-spec =
-    tie.close
-    (tie.spec
-    blank-cells-requires
-    slice-aggregate-read-map
-    read-map-requires
-    enum-known-s
-    nodes-requires
-    array-share-prefix-cells
-    slice-aggregate-map-text
-    map-text-requires
-    enum-told
-    report-requires
-    same-length
-    returns
-    same-length-2
-    returns-2)
+    tie.close (tie.spec (λ c κs. search needs) (λ c. search needs) (λ c κs. search needs) (λ c. search needs)
+    nodes-requires (λ c. search needs) slice-aggregate-map-text map-text-requires (λ c. search needs)
+    (λ c κs. search needs) (λ c. search needs) returns (λ c. search needs) returns-2)

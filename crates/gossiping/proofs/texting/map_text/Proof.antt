@@ -25,41 +25,14 @@ way-long c =
     let room = c .before .before in
     length-take-le (6 * c .nodes2 .result) (room .blank-way .result) (omega (arith, c .nodes2 .ensures .1, room .blank-way .ensures))
 
-blank-state-requires : tie.Need-blank-state-requires
-blank-state-requires c κs = search needs
-
-blank-way-requires : tie.Need-blank-way-requires
-blank-way-requires c κs = search needs
-
 nodes-requires : tie.Need-nodes-requires
 nodes-requires c κs = let s = c .before .before .before .before in map-granted (s .args .s) (now (s .args .cells)) (s .pre .0) .sized
-
-mul-long : tie.Need-mul-long
-mul-long c = search needs
 
 nodes-requires-2 : tie.Need-nodes-requires-2
 nodes-requires-2 c κs = let s = c .before .before .before .before .before in map-granted (s .args .s) (now (s .args .cells)) (s .pre .0) .sized
 
-mul-wide : tie.Need-mul-wide
-mul-wide c = search needs
-
-count-faulty-requires : tie.Need-count-faulty-requires
-count-faulty-requires c κs = search needs
-
-first-line-requires : tie.Need-first-line-requires
-first-line-requires c κs = search needs
-
-legend-requires : tie.Need-legend-requires
-legend-requires c κs = search needs
-
-array-borrow-prefix-state : tie.Need-array-borrow-prefix-state
-array-borrow-prefix-state c = search needs
-
 slice-aggregate-octant-texts : tie.Need-slice-aggregate-octant-texts
 slice-aggregate-octant-texts c = sym (state-long (c .before .before .before .before .before .before .before .before .before .before))
-
-array-borrow-prefix-way : tie.Need-array-borrow-prefix-way
-array-borrow-prefix-way c = search needs
 
 slice-aggregate-octant-texts-2 : tie.Need-slice-aggregate-octant-texts-2
 slice-aggregate-octant-texts-2 c = sym (way-long (c .before .before .before .before .before .before .before .before .before .before .before))
@@ -83,9 +56,6 @@ octant-texts-requires c κs =
       ),
     )
 
-same-length : tie.Need-same-length
-same-length c = search needs
-
 returns : tie.Need-returns
 returns c =
     let rest = c .before .before .before .before in
@@ -103,21 +73,7 @@ returns c =
 
 pub map-text-spec : {M : Type 1} → statement M
 map-text-spec =
-    tie.close
-    (tie.spec
-    blank-state-requires
-    blank-way-requires
-    nodes-requires
-    mul-long
-    nodes-requires-2
-    mul-wide
-    count-faulty-requires
-    first-line-requires
-    legend-requires
-    array-borrow-prefix-state
-    slice-aggregate-octant-texts
-    array-borrow-prefix-way
-    slice-aggregate-octant-texts-2
-    octant-texts-requires
-    same-length
-    returns)
+    tie.close (tie.spec (λ c κs. search needs) (λ c κs. search needs) nodes-requires (λ c. search needs)
+    nodes-requires-2 (λ c. search needs) (λ c κs. search needs) (λ c κs. search needs) (λ c κs. search needs)
+    (λ c. search needs) slice-aggregate-octant-texts (λ c. search needs) slice-aggregate-octant-texts-2
+    octant-texts-requires (λ c. search needs) returns)

@@ -11,18 +11,6 @@ use borrow.Author.Needs.{needs}
 use Rattle.gossiping.proofs.texting.octant_text.Statement.{statement}
 use Rattle.gossiping.proofs.texting.octant_text.Tie as tie
 
-fresh-requires : tie.Need-fresh-requires
-fresh-requires c κs = search needs
-
-clear-requires : tie.Need-clear-requires
-clear-requires c κs = search needs
-
-working-requires : tie.Need-working-requires
-working-requires c κs = search needs
-
-start-line-requires : tie.Need-start-line-requires
-start-line-requires c κs = search needs
-
 talk-requires : tie.Need-talk-requires
 talk-requires c κs =
     let line = c .before .before .before .before .before in
@@ -36,24 +24,6 @@ talk-requires c κs =
       clear .clear .ensures ∙ ap (λ (n : ℕ). replicate n 0) (s .pre .3),
       omega (arith, s .pre .4, line .start-line .ensures .1, line .start-line .kept .1 .1 .0),
     )
-
-mul-settled-line : tie.Need-mul-settled-line
-mul-settled-line c = search needs
-
-add-settled-line : tie.Need-add-settled-line
-add-settled-line c = search needs
-
-settled-line-requires : tie.Need-settled-line-requires
-settled-line-requires c κs = search needs
-
-same-length : tie.Need-same-length
-same-length c = search needs
-
-same-length-2 : tie.Need-same-length-2
-same-length-2 c = search needs
-
-same-length-3 : tie.Need-same-length-3
-same-length-3 c = search needs
 
 returns : tie.Need-returns
 unfolding octantText
@@ -75,17 +45,6 @@ returns c =
 
 pub octant-text-spec : {M : Type 1} → statement M
 octant-text-spec =
-    tie.close
-    (tie.spec
-    fresh-requires
-    clear-requires
-    working-requires
-    start-line-requires
-    talk-requires
-    mul-settled-line
-    add-settled-line
-    settled-line-requires
-    same-length
-    same-length-2
-    same-length-3
-    returns)
+    tie.close (tie.spec (λ c κs. search needs) (λ c κs. search needs) (λ c κs. search needs) (λ c κs. search needs)
+    talk-requires (λ c. search needs) (λ c. search needs) (λ c κs. search needs) (λ c. search needs) (λ c. search needs)
+    (λ c. search needs) returns)

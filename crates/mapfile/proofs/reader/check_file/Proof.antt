@@ -20,15 +20,6 @@ trusted c = sym (c .before .before .check-trailer .ensures) ∙ c .enum-told .gi
 count-is : (c : tie.After-nodes) → c .nodes .result ≡ nodes (sizesIn (now (c .before .before .before .before .before .before .args .file)))
 count-is c = c .nodes .ensures .0 ∙ ap nodes (c .before .sizes-in .ensures)
 
-check-trailer-requires : tie.Need-check-trailer-requires
-check-trailer-requires c κs = search needs
-
-enum-told : tie.Need-enum-told
-enum-told c = search needs
-
-enum-told-2 : tie.Need-enum-told-2
-enum-told-2 c = search needs
-
 returns : tie.Need-returns
 returns c =
     let a = c .before .before .before .before .args in
@@ -51,9 +42,6 @@ cells-in-requires c κs =
     let file = now (c .before .before .before .before .before .before .before .args .file) in
     rw (count-is (c .before)) (trailer-says file (trusted (c .before .before .before)) .2)
 
-check-map-requires : tie.Need-check-map-requires
-check-map-requires c κs = search needs
-
 returns-3 : tie.Need-returns-3
 returns-3 c =
     let past = c .before .before in
@@ -68,15 +56,5 @@ returns-3 c =
 
 pub check-file-spec : {M : Type 1} → statement M
 check-file-spec =
-    tie.close
-    (tie.spec
-    check-trailer-requires
-    enum-told
-    enum-told-2
-    returns
-    sizes-in-requires
-    nodes-requires
-    returns-2
-    cells-in-requires
-    check-map-requires
-    returns-3)
+    tie.close (tie.spec (λ c κs. search needs) (λ c. search needs) (λ c. search needs) returns sizes-in-requires
+    nodes-requires returns-2 cells-in-requires (λ c κs. search needs) returns-3)

@@ -13,18 +13,12 @@ returns c = sym (frame-short (now (c .before .before .args .file)) (c .if1 .take
 returns-2 : tie.Need-returns-2
 returns-2 c = sym (frame-long (now (c .before .before .before .args .file)) (c .before .if1 .left) (c .if2 .taken))
 
-has-mark-requires : tie.Need-has-mark-requires
-has-mark-requires c κs = search needs
-
 returns-3 : tie.Need-returns-3
 returns-3 c =
     let past = c .before .before in
     sym
     (frame-mark (now (past .before .before .before .args .file)) (past .before .if1 .left) (past .if2 .left)
     (sym (c .before .has-mark .ensures) ∙ not-true _ (c .if3 .taken)))
-
-trailer-at-requires : tie.Need-trailer-at-requires
-trailer-at-requires c κs = search needs
 
 returns-4 : tie.Need-returns-4
 returns-4 c =
@@ -46,12 +40,4 @@ returns-5 c =
 
 pub check-frame-spec : {M : Type 1} → statement M
 check-frame-spec =
-    tie.close
-    (tie.spec
-    returns
-    returns-2
-    has-mark-requires
-    returns-3
-    trailer-at-requires
-    returns-4
-    returns-5)
+    tie.close (tie.spec returns returns-2 (λ c κs. search needs) returns-3 (λ c κs. search needs) returns-4 returns-5)

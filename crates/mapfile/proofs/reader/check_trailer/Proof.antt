@@ -27,15 +27,6 @@ distance-is : (c : tie.After-distance-in) →
     c .before .nodes .result + 12 ≡ distance (sizesIn file)
 distance-is c = ap (λ (n : ℕ). n + 12) (c .before .nodes .ensures .0) ∙ ap distance (c .before .before .before .before .sizes-in .ensures)
 
-check-frame-requires : tie.Need-check-frame-requires
-check-frame-requires c κs = search needs
-
-enum-told : tie.Need-enum-told
-enum-told c = search needs
-
-enum-told-2 : tie.Need-enum-told-2
-enum-told-2 c = search needs
-
 returns : tie.Need-returns
 returns c =
     let file = now (c .before .before .before .before .args .file) in
@@ -45,9 +36,6 @@ returns c =
 sizes-in-requires : tie.Need-sizes-in-requires
 sizes-in-requires c κs = frame-least (now (c .before .before .before .before .args .file)) (framed c)
 
-in-range-requires : tie.Need-in-range-requires
-in-range-requires c κs = search needs
-
 returns-2 : tie.Need-returns-2
 returns-2 c =
     let past = c .before .before .before in
@@ -56,9 +44,6 @@ returns-2 c =
 
 nodes-requires : tie.Need-nodes-requires
 nodes-requires c κs = sizes-of (c .before .before .sizes-in .result) (sym (c .before .in-range .ensures) ∙ not-false _ (c .if1 .left))
-
-add-distance : tie.Need-add-distance
-add-distance c = search needs
 
 distance-in-requires : tie.Need-distance-in-requires
 distance-in-requires c κs =
@@ -96,18 +81,6 @@ returns-5 c =
 
 pub check-trailer-spec : {M : Type 1} → statement M
 check-trailer-spec =
-    tie.close
-    (tie.spec
-    check-frame-requires
-    enum-told
-    enum-told-2
-    returns
-    sizes-in-requires
-    in-range-requires
-    returns-2
-    nodes-requires
-    add-distance
-    distance-in-requires
-    returns-3
-    returns-4
+    tie.close (tie.spec (λ c κs. search needs) (λ c. search needs) (λ c. search needs) returns sizes-in-requires
+    (λ c κs. search needs) returns-2 nodes-requires (λ c. search needs) distance-in-requires returns-3 returns-4
     returns-5)

@@ -28,12 +28,6 @@ granted c = let a = c .before .before .before .before .before .args in T-granted
 count-is : (c : tie.After-nodes) → c .nodes .result ≡ nodes (sizesIn (now (c .before .before .before .before .before .before .before .args .file)))
 count-is c = c .nodes .ensures .0 ∙ ap nodes (c .before .sizes-in .ensures)
 
-check-file-requires : tie.Need-check-file-requires
-check-file-requires c κs = search needs
-
-enum-known-answer : tie.Need-enum-known-answer
-enum-known-answer c = search needs
-
 returns : tie.Need-returns
 returns c =
     let a = c .before .before .before .before .before .before .args in
@@ -43,9 +37,6 @@ returns c =
       sym (not-read file (length (now (a .cells))) (r .0) no),
       sym (kept (readCheck file (length (now (a .cells)))) (r .0) (readWritten file (now (a .cells))) (now (a .cells)) no),
     )
-
-enum-told : tie.Need-enum-told
-enum-told c = search needs
 
 sizes-in-requires : tie.Need-sizes-in-requires
 sizes-in-requires c κs = granted c .least
@@ -65,9 +56,6 @@ put-requires c κs =
     let e = ap length (c .before .cells-in .ensures ∙ cells-part file (past .nodes .result) (count-is past)) in
     omega (arith, e, cells-size file (g .inside), g .holds)
 
-same-length : tie.Need-same-length
-same-length c = search needs
-
 returns-2 : tie.Need-returns-2
 returns-2 c =
     let past = c .before .before .before .before .before in
@@ -81,15 +69,5 @@ returns-2 c =
 
 pub read-map-spec : {M : Type 1} → statement M
 read-map-spec =
-    tie.close
-    (tie.spec
-    check-file-requires
-    enum-known-answer
-    returns
-    enum-told
-    sizes-in-requires
-    nodes-requires
-    cells-in-requires
-    put-requires
-    same-length
-    returns-2)
+    tie.close (tie.spec (λ c κs. search needs) (λ c. search needs) returns (λ c. search needs) sizes-in-requires
+    nodes-requires cells-in-requires put-requires (λ c. search needs) returns-2)

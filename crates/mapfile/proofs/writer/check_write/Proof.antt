@@ -17,16 +17,7 @@ use Rattle.mapfile.proofs.writer.check_write.Tie as tie
 granted : (c : tie.After-enum-told) → let a = c .before .before .before .before .args in checkMap (a .s) (now (a .cells)) ≡ Done
 granted c = sym (c .before .before .check-map .ensures) ∙ c .enum-told .given .1
 
-check-map-requires : tie.Need-check-map-requires
-check-map-requires c κs = search needs
-
-enum-told : tie.Need-enum-told
-enum-told c = search needs
-
 -- src/writer.rt:41:9
-enum-told-2 : tie.Need-enum-told-2
-enum-told-2 c = search needs
-
 -- src/writer.rt:41:9
 returns : tie.Need-returns
 returns c =
@@ -41,9 +32,6 @@ nodes-requires c κs =
     map-granted (a .s) (now (a .cells)) (granted c) .sized
 
 -- src/writer.rt:43:8
-add-if1 : tie.Need-add-if1
-add-if1 c = search needs
-
 -- src/writer.rt:44:9
 returns-2 : tie.Need-returns-2
 returns-2 c =
@@ -60,13 +48,5 @@ returns-3 c =
 
 pub check-write-spec : {M : Type 1} → statement M
 check-write-spec =
-    tie.close
-    (tie.spec
-    check-map-requires
-    enum-told
-    enum-told-2
-    returns
-    nodes-requires
-    add-if1
-    returns-2
-    returns-3)
+    tie.close (tie.spec (λ c κs. search needs) (λ c. search needs) (λ c. search needs) returns nodes-requires
+    (λ c. search needs) returns-2 returns-3)

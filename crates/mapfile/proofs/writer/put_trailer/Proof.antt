@@ -11,27 +11,6 @@ use Rattle.mapfile.proofs.Stored.{stored-next}
 use Rattle.mapfile.proofs.writer.put_trailer.Statement.{statement}
 use Rattle.mapfile.proofs.writer.put_trailer.Tie as tie
 
-sizes-and-distance-requires : tie.Need-sizes-and-distance-requires
-sizes-and-distance-requires c κs = search needs
-
-slice-aggregate-put : tie.Need-slice-aggregate-put
-slice-aggregate-put c = search needs
-
-put-requires : tie.Need-put-requires
-put-requires c κs = search needs
-
-slice-aggregate-put-2 : tie.Need-slice-aggregate-put-2
-slice-aggregate-put-2 c = search needs
-
-add-put : tie.Need-add-put
-add-put c = search needs
-
-put-requires-2 : tie.Need-put-requires-2
-put-requires-2 c κs = search needs
-
-same-length : tie.Need-same-length
-same-length c = search needs
-
 returns : tie.Need-returns
 unfolding trailer
 returns c =
@@ -45,13 +24,5 @@ returns c =
 
 pub put-trailer-spec : {M : Type 1} → statement M
 put-trailer-spec =
-    tie.close
-    (tie.spec
-    sizes-and-distance-requires
-    slice-aggregate-put
-    put-requires
-    slice-aggregate-put-2
-    add-put
-    put-requires-2
-    same-length
-    returns)
+    tie.close (tie.spec (λ c κs. search needs) (λ c. search needs) (λ c κs. search needs) (λ c. search needs)
+    (λ c. search needs) (λ c κs. search needs) (λ c. search needs) returns)

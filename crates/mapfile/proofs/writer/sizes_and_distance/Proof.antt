@@ -7,33 +7,6 @@ use Rattle.mapfile.specs.Format.{fourBytes}
 use Rattle.mapfile.proofs.writer.sizes_and_distance.Statement.{statement}
 use Rattle.mapfile.proofs.writer.sizes_and_distance.Tie as tie
 
-nodes-requires : tie.Need-nodes-requires
-nodes-requires c κs = search needs
-
-add-n : tie.Need-add-n
-add-n c = search needs
-
-cast-t4 : tie.Need-cast-t4
-cast-t4 c = search needs
-
-cast-t5 : tie.Need-cast-t5
-cast-t5 c = search needs
-
-cast-t6 : tie.Need-cast-t6
-cast-t6 c = search needs
-
-cast-t7 : tie.Need-cast-t7
-cast-t7 c = search needs
-
-cast-t10 : tie.Need-cast-t10
-cast-t10 c = search needs
-
-cast-t13 : tie.Need-cast-t13
-cast-t13 c = search needs
-
-cast-t16 : tie.Need-cast-t16
-cast-t16 c = search needs
-
 returns : tie.Need-returns
 returns c =
     let n = c .before .before .before in
@@ -42,15 +15,5 @@ returns c =
 
 pub sizes-and-distance-spec : {M : Type 1} → statement M
 sizes-and-distance-spec =
-    tie.close
-    (tie.spec
-    nodes-requires
-    add-n
-    cast-t4
-    cast-t5
-    cast-t6
-    cast-t7
-    cast-t10
-    cast-t13
-    cast-t16
-    returns)
+    tie.close (tie.spec (λ c κs. search needs) (λ c. search needs) (λ c. search needs) (λ c. search needs)
+    (λ c. search needs) (λ c. search needs) (λ c. search needs) (λ c. search needs) (λ c. search needs) returns)

@@ -21,12 +21,6 @@ done : (c : tie.After-enum-told) →
     let a = c .before .before .before .before .before .args in writeCheck (a .s) (now (a .cells)) (length (now (a .out))) ≡ Done
 done c = sym (c .before .before .check-write .ensures) ∙ c .enum-told .given .1
 
-check-write-requires : tie.Need-check-write-requires
-check-write-requires c κs = search needs
-
-enum-known-answer : tie.Need-enum-known-answer
-enum-known-answer c = search needs
-
 returns : tie.Need-returns
 returns c =
     let a = c .before .before .before .before .before .before .args in
@@ -36,9 +30,6 @@ returns c =
       sym (not-written (a .s) (now (a .cells)) room (r .0) no),
       sym (kept (writeCheck (a .s) (now (a .cells)) room) (r .0) (writeWritten (a .s) (now (a .cells)) (now (a .out))) (now (a .out)) no),
     )
-
-enum-told : tie.Need-enum-told
-enum-told c = search needs
 
 nodes-requires : tie.Need-nodes-requires
 nodes-requires c κs =
@@ -60,12 +51,6 @@ put-trailer-requires c κs =
     let q = write-says (a .s) (now (a .cells)) (length (now (a .out))) (done told) in
     (q .0, omega (arith, q .2, first .before .before .nodes .ensures .0, first .put .kept .1 .0))
 
-add-t7 : tie.Need-add-t7
-add-t7 c = search needs
-
-same-length : tie.Need-same-length
-same-length c = search needs
-
 returns-2 : tie.Need-returns-2
 returns-2 c =
     let last = c .before .before in
@@ -83,15 +68,5 @@ returns-2 c =
 
 pub write-map-spec : {M : Type 1} → statement M
 write-map-spec =
-    tie.close
-    (tie.spec
-    check-write-requires
-    enum-known-answer
-    returns
-    enum-told
-    nodes-requires
-    put-requires
-    put-trailer-requires
-    add-t7
-    same-length
-    returns-2)
+    tie.close (tie.spec (λ c κs. search needs) (λ c. search needs) returns (λ c. search needs) nodes-requires
+    put-requires put-trailer-requires (λ c. search needs) (λ c. search needs) returns-2)

@@ -10,18 +10,6 @@ use Rattle.marks.proofs.Written.{swept-bytes, written}
 use Rattle.marks.proofs.entry.mark_all.Statement.{statement}
 use Rattle.marks.proofs.entry.mark_all.Tie as tie
 
-blank-requires : tie.Need-blank-requires
-blank-requires c κs = search needs
-
-sub-reversed : tie.Need-sub-reversed
-sub-reversed c = search needs
-
-sweep-requires : tie.Need-sweep-requires
-sweep-requires c κs = search needs
-
-slice-aggregate-sweep : tie.Need-slice-aggregate-sweep
-slice-aggregate-sweep c = search needs
-
 sweep-requires-2 : tie.Need-sweep-requires-2
 sweep-requires-2 c κs =
     let s = c .before .before .before .before .before .before .before .before in
@@ -31,12 +19,6 @@ sweep-requires-2 c κs =
       cells-long = r .cells-long;
       out-long = omega (arith, c .before .before .before .before .before .blank .ensures, nodes-le (s .args .s) (r .sized));
     }
-
-slice-aggregate-join : tie.Need-slice-aggregate-join
-slice-aggregate-join c = search needs
-
-nodes-requires : tie.Need-nodes-requires
-nodes-requires c κs = search needs
 
 join-requires : tie.Need-join-requires
 join-requires c κs =
@@ -53,9 +35,6 @@ join-requires c κs =
       swept-bytes _ _ _ (f .sweep .last .1 .1 .0) (f .sweep .ensures) (omega (arith, r .out-long, f .sweep .kept .1 .1 .0)),
     )
 
-same-length : tie.Need-same-length
-same-length c = search needs
-
 returns : tie.Need-returns
 returns c =
     let k = c .before .before in
@@ -71,15 +50,5 @@ returns c =
 
 pub mark-all-spec : {M : Type 1} → statement M
 mark-all-spec =
-    tie.close
-    (tie.spec
-    blank-requires
-    sub-reversed
-    sweep-requires
-    slice-aggregate-sweep
-    sweep-requires-2
-    slice-aggregate-join
-    nodes-requires
-    join-requires
-    same-length
-    returns)
+    tie.close (tie.spec (λ c κs. search needs) (λ c. search needs) (λ c κs. search needs) (λ c. search needs)
+    sweep-requires-2 (λ c. search needs) (λ c κs. search needs) join-requires (λ c. search needs) returns)

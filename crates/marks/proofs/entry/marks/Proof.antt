@@ -14,15 +14,6 @@ in-order : (c : tie.After-enum-told)
     → let a = c .before .before .before .before .before .args in marksAnswer (a .s) (now (a .cells)) (a .orientation) (length (now (a .out))) ≡ Done
 in-order c = sym (c .before .before .marks-answer .ensures) ∙ c .enum-told .given .1
 
-marks-answer-requires : tie.Need-marks-answer-requires
-marks-answer-requires c κs = search needs
-
-enum-told : tie.Need-enum-told
-enum-told c = search needs
-
-enum-told-2 : tie.Need-enum-told-2
-enum-told-2 c = search needs
-
 returns : tie.Need-returns
 returns c =
     let m = c .before .before in
@@ -38,9 +29,6 @@ mark-all-requires c κs =
     let g = marks-granted (a .s) (now (a .cells)) (a .orientation) (length (now (a .out))) (in-order t) in
     (record { sized = g .map .sized; cells-long = g .map .whole; out-long = g .fits }, g .orientation)
 
-same-length : tie.Need-same-length
-same-length c = search needs
-
 returns-2 : tie.Need-returns-2
 returns-2 c =
     let k = c .before .before in
@@ -49,12 +37,5 @@ returns-2 c =
 
 pub marks-spec : {M : Type 1} → statement M
 marks-spec =
-    tie.close
-    (tie.spec
-    marks-answer-requires
-    enum-told
-    enum-told-2
-    returns
-    mark-all-requires
-    same-length
-    returns-2)
+    tie.close (tie.spec (λ c κs. search needs) (λ c. search needs) (λ c. search needs) returns mark-all-requires
+    (λ c. search needs) returns-2)

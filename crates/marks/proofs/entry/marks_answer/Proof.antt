@@ -14,15 +14,6 @@ use Rattle.marks.proofs.entry.marks_answer.Tie as tie
 in-order : (c : tie.After-enum-told) → let a = c .before .before .before .before .args in checkMap (a .s) (now (a .cells)) ≡ Done
 in-order c = sym (c .before .before .check-map .ensures) ∙ c .enum-told .given .1
 
-check-map-requires : tie.Need-check-map-requires
-check-map-requires c κs = search needs
-
-enum-told : tie.Need-enum-told
-enum-told c = search needs
-
-enum-told-2 : tie.Need-enum-told-2
-enum-told-2 c = search needs
-
 returns : tie.Need-returns
 returns c =
     let m = c .before .before in
@@ -60,13 +51,5 @@ returns-4 c =
 
 pub marks-answer-spec : {M : Type 1} → statement M
 marks-answer-spec =
-    tie.close
-    (tie.spec
-    check-map-requires
-    enum-told
-    enum-told-2
-    returns
-    returns-2
-    nodes-requires
-    returns-3
-    returns-4)
+    tie.close (tie.spec (λ c κs. search needs) (λ c. search needs) (λ c. search needs) returns returns-2 nodes-requires
+    returns-3 returns-4)

@@ -4,18 +4,6 @@ use borrow.Author.Needs.{needs}
 use Rattle.marks.proofs.join.mark_byte.Statement.{statement}
 use Rattle.marks.proofs.join.mark_byte.Tie as tie
 
-faulty-cell-requires : tie.Need-faulty-cell-requires
-faulty-cell-requires c κs = search needs
-
-mul-result : tie.Need-mul-result
-mul-result c = search needs
-
-mul-result-2 : tie.Need-mul-result-2
-mul-result-2 c = search needs
-
-add-result : tie.Need-add-result
-add-result c = search needs
-
 returns : tie.Need-returns
 returns c = rw (sym (c .before .faulty-cell .ensures) ∙ c .if1 .taken)
 
@@ -24,4 +12,5 @@ returns-2 c = rw (sym (c .before .faulty-cell .ensures) ∙ c .if1 .left)
 
 pub mark-byte-spec : {M : Type 1} → statement M
 mark-byte-spec =
-    tie.close (tie.spec faulty-cell-requires mul-result mul-result-2 add-result returns returns-2)
+    tie.close (tie.spec (λ c κs. search needs) (λ c. search needs) (λ c. search needs) (λ c. search needs) returns
+    returns-2)

@@ -5,21 +5,9 @@ use borrow.Author.Needs.{needs}
 use Rattle.marks.proofs.layer.ahead_z.Statement.{statement}
 use Rattle.marks.proofs.layer.ahead_z.Tie as tie
 
-returns : tie.Need-returns
-returns c = search needs
-
-sub-coordinate : tie.Need-sub-coordinate
-sub-coordinate c = search needs
-
-coordinate-requires : tie.Need-coordinate-requires
-coordinate-requires c κs = search needs
-
-number-requires : tie.Need-number-requires
-number-requires c κs = search needs
-
 returns-2 : tie.Need-returns-2
 returns-2 c = (λ e. absurd (omega arith), λ l. c .number .ensures .0 ∙ (rw (c .before .coordinate .ensures .0)))
 
 pub ahead-z-spec : {M : Type 1} → statement M
 ahead-z-spec =
-    tie.close (tie.spec returns sub-coordinate coordinate-requires number-requires returns-2)
+    tie.close (tie.spec (λ c. search needs) (λ c. search needs) (λ c κs. search needs) (λ c κs. search needs) returns-2)

@@ -35,27 +35,6 @@ l-is : (c : tie.After-ahead-z) →
     0 < s .args .c → c .ahead-z .result ≡ First s (s .args .b) (s .args .c - 1)
 l-is c d = rw (← c .before .before .before .before .before .coordinate .ensures .0) (omega (arith, c .ahead-z .ensures .1 d))
 
-coordinate-requires : tie.Need-coordinate-requires
-coordinate-requires c κs = search needs
-
-coordinate-requires-2 : tie.Need-coordinate-requires-2
-coordinate-requires-2 c κs = search needs
-
-sub-coordinate : tie.Need-sub-coordinate
-sub-coordinate c = search needs
-
-coordinate-requires-3 : tie.Need-coordinate-requires-3
-coordinate-requires-3 c κs = search needs
-
-number-requires : tie.Need-number-requires
-number-requires c κs = search needs
-
-number-requires-2 : tie.Need-number-requires-2
-number-requires-2 c κs = search needs
-
-ahead-z-requires : tie.Need-ahead-z-requires
-ahead-z-requires c κs = search needs
-
 row-at-requires : tie.Need-row-at-requires
 row-at-requires c κs =
     let z = c .before in
@@ -71,9 +50,6 @@ row-at-requires c κs =
           (s .pre .4) (λ e. z .ahead-z .ensures .0 e ∙ j-is z) (l-is z),
     )
 
-same-length : tie.Need-same-length
-same-length c = search needs
-
 returns : tie.Need-returns
 returns c =
     let q = c .before .before in
@@ -86,15 +62,5 @@ returns c =
 
 pub row-spec : {M : Type 1} → statement M
 row-spec =
-    tie.close
-    (tie.spec
-    coordinate-requires
-    coordinate-requires-2
-    sub-coordinate
-    coordinate-requires-3
-    number-requires
-    number-requires-2
-    ahead-z-requires
-    row-at-requires
-    same-length
-    returns)
+    tie.close (tie.spec (λ c κs. search needs) (λ c κs. search needs) (λ c. search needs) (λ c κs. search needs)
+    (λ c κs. search needs) (λ c κs. search needs) (λ c κs. search needs) row-at-requires (λ c. search needs) returns)

@@ -5,13 +5,10 @@ use Rattle.marks.proofs.Turns.{shut-is}
 use Rattle.marks.proofs.layer.shut_byte.Statement.{statement}
 use Rattle.marks.proofs.layer.shut_byte.Tie as tie
 
-faulty-bit-requires : tie.Need-faulty-bit-requires
-faulty-bit-requires c κs = search needs
-
 returns : tie.Need-returns
 returns c =
     let s = c .before in
     rw (c .faulty-bit .ensures) (shut-is (faultyCell (s .args .cell)) (s .args .x) (s .args .y) (s .args .z) (s .pre .0) (s .pre .1) (s .pre .2))
 
 pub shut-byte-spec : {M : Type 1} → statement M
-shut-byte-spec = tie.close (tie.spec faulty-bit-requires returns)
+shut-byte-spec = tie.close (tie.spec (λ c κs. search needs) returns)

@@ -12,9 +12,6 @@ use Rattle.marks.proofs.Clear.{Begun, all-fit, clear}
 use Rattle.marks.proofs.sweep.any_blocked.Statement.{statement}
 use Rattle.marks.proofs.sweep.any_blocked.Tie as tie
 
-coordinate-requires : tie.Need-coordinate-requires
-coordinate-requires c κs = search needs
-
 sub-meet : tie.Need-sub-meet
 sub-meet c = omega arith
 
@@ -38,9 +35,6 @@ ahead-z-requires c κs =
     let s = c .before .before .before .before in
     let r = s .pre .0 in
     (r, omega (arith, r .w-lo), omega (arith, r .h-lo), s .pre .2)
-
-inner-requires : tie.Need-inner-requires
-inner-requires c κs = search needs
 
 -- the parity of a number is the bit that the definitions ask
 odd : (n : ℕ) → n % 2 ≡ bit (one (n % 2))
@@ -78,14 +72,5 @@ returns c t cells flat A =
 
 pub any-blocked-spec : {M : Type 1} → statement M
 any-blocked-spec =
-    tie.close
-    (tie.spec
-    coordinate-requires
-    sub-meet
-    number-requires
-    sub-t12
-    number-requires-2
-    ahead-z-requires
-    inner-requires
-    meet-requires
-    returns)
+    tie.close (tie.spec (λ c κs. search needs) sub-meet number-requires sub-t12 number-requires-2 ahead-z-requires
+    (λ c κs. search needs) meet-requires returns)

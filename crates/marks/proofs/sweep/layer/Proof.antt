@@ -6,12 +6,6 @@ use denote.Ref.{now}
 use Rattle.marks.proofs.sweep.layer.Statement.{statement}
 use Rattle.marks.proofs.sweep.layer.Tie as tie
 
-any-blocked-requires : tie.Need-any-blocked-requires
-any-blocked-requires c κs = search needs
-
-same-length : tie.Need-same-length
-same-length c = search needs
-
 returns : tie.Need-returns
 returns c =
     let s = c .before .before .before .before .before in
@@ -21,16 +15,10 @@ returns c =
       kept = λ k l. refl;
     }
 
-rows-requires : tie.Need-rows-requires
-rows-requires c κs = search needs
-
-same-length-2 : tie.Need-same-length-2
-same-length-2 c = search needs
-
 returns-2 : tie.Need-returns-2
 returns-2 c = c .before .before .rows .ensures
 
 pub layer-spec : {M : Type 1} → statement M
 layer-spec =
-    tie.close
-    (tie.spec any-blocked-requires same-length returns rows-requires same-length-2 returns-2)
+    tie.close (tie.spec (λ c κs. search needs) (λ c. search needs) returns (λ c κs. search needs) (λ c. search needs)
+    returns-2)

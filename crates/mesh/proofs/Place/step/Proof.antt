@@ -78,23 +78,11 @@ z-is c =
     leads (u .unit-step .result) (s .args .direction) 2 (u .unit-step .ensures) (s .pre .0) (omega arith)
     (s .args .self .z) (s .args .s .d) (c .shift3 .result) (c .shift3 .ensures)
 
-unit-step-requires : tie.Need-unit-step-requires
-unit-step-requires c κs = search needs
-
-array-copy-out-shift : tie.Need-array-copy-out-shift
-array-copy-out-shift c = search needs
-
 shift-requires : tie.Need-shift-requires
 shift-requires c κs =
     let u = c .before in
     let s = u .before in
     (omega (arith, s .pre .2 .x-in), sent-low (u .unit-step .result) (s .args .direction) 0 (u .unit-step .ensures) (s .pre .0) (omega arith))
-
-enum-known-x : tie.Need-enum-known-x
-enum-known-x c = search needs
-
-enum-told : tie.Need-enum-told
-enum-told c = search needs
 
 returns : tie.Need-returns
 returns c =
@@ -103,20 +91,11 @@ returns c =
     let e = next-is (s .args .s) (s .args .self) (s .args .direction) (s .pre .0) in
     rw (e, x-is x ∙ c .enum-told .given .1)
 
-array-copy-out-shift-2 : tie.Need-array-copy-out-shift-2
-array-copy-out-shift-2 c = search needs
-
 shift-requires-2 : tie.Need-shift-requires-2
 shift-requires-2 c κs =
     let u = c .before .before .before .before .before .before in
     let s = u .before in
     (omega (arith, s .pre .2 .y-in), sent-low (u .unit-step .result) (s .args .direction) 1 (u .unit-step .ensures) (s .pre .0) (omega arith))
-
-enum-known-y : tie.Need-enum-known-y
-enum-known-y c = search needs
-
-enum-told-2 : tie.Need-enum-told-2
-enum-told-2 c = search needs
 
 returns-2 : tie.Need-returns-2
 returns-2 c =
@@ -127,20 +106,11 @@ returns-2 c =
     let e = next-is (s .args .s) (s .args .self) (s .args .direction) (s .pre .0) in
     rw (e, x-is x ∙ to-x .x .given .1, y-is y ∙ c .enum-told2 .given .1)
 
-array-copy-out-shift-3 : tie.Need-array-copy-out-shift-3
-array-copy-out-shift-3 c = search needs
-
 shift-requires-3 : tie.Need-shift-requires-3
 shift-requires-3 c κs =
     let u = c .before .before .before .before .before .before .before .before .before .before .before in
     let s = u .before in
     (omega (arith, s .pre .2 .z-in), sent-low (u .unit-step .result) (s .args .direction) 2 (u .unit-step .ensures) (s .pre .0) (omega arith))
-
-enum-known-z : tie.Need-enum-known-z
-enum-known-z c = search needs
-
-enum-told-3 : tie.Need-enum-told-3
-enum-told-3 c = search needs
 
 returns-3 : tie.Need-returns-3
 returns-3 c =
@@ -167,22 +137,6 @@ returns-4 c =
 
 pub step-spec : {M : Type 1} → statement M
 step-spec =
-    tie.close
-    (tie.spec
-    unit-step-requires
-    array-copy-out-shift
-    shift-requires
-    enum-known-x
-    enum-told
-    returns
-    array-copy-out-shift-2
-    shift-requires-2
-    enum-known-y
-    enum-told-2
-    returns-2
-    array-copy-out-shift-3
-    shift-requires-3
-    enum-known-z
-    enum-told-3
-    returns-3
-    returns-4)
+    tie.close (tie.spec (λ c κs. search needs) (λ c. search needs) shift-requires (λ c. search needs)
+    (λ c. search needs) returns (λ c. search needs) shift-requires-2 (λ c. search needs) (λ c. search needs) returns-2
+    (λ c. search needs) shift-requires-3 (λ c. search needs) (λ c. search needs) returns-3 returns-4)

@@ -8,15 +8,6 @@ use Rattle.mesh.specs.Mesh.{inRange}
 use Rattle.mesh.proofs.Sizes.in_range.Statement.{statement}
 use Rattle.mesh.proofs.Sizes.in_range.Tie as tie
 
-between-requires : tie.Need-between-requires
-between-requires c κs = search needs
-
-between-requires-2 : tie.Need-between-requires-2
-between-requires-2 c κs = search needs
-
-between-requires-3 : tie.Need-between-requires-3
-between-requires-3 c κs = search needs
-
 -- the first two tests together
 w-and-h : (c : tie.Joined1) →
     let s = c .before .before .args .self in c .if1 .if2 ≡ between 2 16 (s .w) && between 2 16 (s .h)
@@ -34,4 +25,4 @@ returns-2 c = rw (sym (w-and-h (c .before)) ∙ c .if2 .left) (c .if2 .left)
 
 pub in-range-spec : {M : Type 1} → statement M
 in-range-spec =
-    tie.close (tie.spec between-requires between-requires-2 between-requires-3 returns returns-2)
+    tie.close (tie.spec (λ c κs. search needs) (λ c κs. search needs) (λ c κs. search needs) returns returns-2)

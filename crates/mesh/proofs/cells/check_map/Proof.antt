@@ -20,9 +20,6 @@ sized c = sym (c .before .in-range .ensures) ∙ not-false _ (c .if1 .left)
 whole : (c : tie.Else2) → let a = c .before .before .before .before .before .args in eqb (length (now (a .cells))) (nodes (a .s)) ≡ true
 whole c = eq-eqb _ _ (c .if2 .left ∙ c .before .nodes .ensures .0)
 
-in-range-requires : tie.Need-in-range-requires
-in-range-requires c κs = search needs
-
 returns : tie.Need-returns
 returns c =
     let a = c .before .before .before .args in
@@ -36,9 +33,6 @@ returns-2 c =
     let past = c .before .before in
     let a = past .before .before .before .args in
     map-2 (a .s) (now (a .cells)) (sized past) (ne-eqb _ _ (rw (c .before .nodes .ensures .0) at (c .if2 .taken)))
-
-any-bad-requires : tie.Need-any-bad-requires
-any-bad-requires c κs = search needs
 
 first-bad-requires : tie.Need-first-bad-requires
 first-bad-requires c κs = let past = c .before .before in past .if2 .left ∙ past .before .nodes .ensures .0
@@ -58,13 +52,5 @@ returns-4 c =
 
 pub check-map-spec : {M : Type 1} → statement M
 check-map-spec =
-    tie.close
-    (tie.spec
-    in-range-requires
-    returns
-    nodes-requires
-    returns-2
-    any-bad-requires
-    first-bad-requires
-    returns-3
-    returns-4)
+    tie.close (tie.spec (λ c κs. search needs) returns nodes-requires returns-2 (λ c κs. search needs)
+    first-bad-requires returns-3 returns-4)

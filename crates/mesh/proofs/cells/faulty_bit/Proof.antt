@@ -4,9 +4,6 @@ use borrow.Author.Needs.{needs}
 use Rattle.mesh.proofs.cells.faulty_bit.Statement.{statement}
 use Rattle.mesh.proofs.cells.faulty_bit.Tie as tie
 
-faulty-cell-requires : tie.Need-faulty-cell-requires
-faulty-cell-requires c κs = search needs
-
 returns : tie.Need-returns
 returns c = rw (sym (c .before .faulty-cell .ensures) ∙ c .if1 .taken)
 
@@ -14,4 +11,4 @@ returns-2 : tie.Need-returns-2
 returns-2 c = rw (sym (c .before .faulty-cell .ensures) ∙ c .if1 .left)
 
 pub faulty-bit-spec : {M : Type 1} → statement M
-faulty-bit-spec = tie.close (tie.spec faulty-cell-requires returns returns-2)
+faulty-bit-spec = tie.close (tie.spec (λ c κs. search needs) returns returns-2)

@@ -6,12 +6,9 @@ use Rattle.mesh.specs.Cells.{mayEnd}
 use Rattle.mesh.proofs.cells.may_end.Statement.{statement}
 use Rattle.mesh.proofs.cells.may_end.Tie as tie
 
-faulty-cell-requires : tie.Need-faulty-cell-requires
-faulty-cell-requires c κs = search needs
-
 returns : tie.Need-returns
 unfolding mayEnd
 returns c = ap not (c .faulty-cell .ensures)
 
 pub may-end-spec : {M : Type 1} → statement M
-may-end-spec = tie.close (tie.spec faulty-cell-requires returns)
+may-end-spec = tie.close (tie.spec (λ c κs. search needs) returns)

@@ -6,12 +6,9 @@ use Rattle.mesh.specs.Cells.{mayPass}
 use Rattle.mesh.proofs.cells.may_pass.Statement.{statement}
 use Rattle.mesh.proofs.cells.may_pass.Tie as tie
 
-faulty-cell-requires : tie.Need-faulty-cell-requires
-faulty-cell-requires c κs = search needs
-
 returns : tie.Need-returns
 unfolding mayPass
 returns c = ap not (c .faulty-cell .ensures)
 
 pub may-pass-spec : {M : Type 1} → statement M
-may-pass-spec = tie.close (tie.spec faulty-cell-requires returns)
+may-pass-spec = tie.close (tie.spec (λ c κs. search needs) returns)

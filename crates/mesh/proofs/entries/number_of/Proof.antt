@@ -17,15 +17,9 @@ sized c = sym (c .before .in-range .ensures) ∙ not-false _ (c .if1 .left)
 there : (c : tie.Else2) → let a = c .before .before .before .before .args in inside (a .s) (a .p) ≡ true
 there c = sym (c .before .has .ensures) ∙ not-false _ (c .if2 .left)
 
-in-range-requires : tie.Need-in-range-requires
-in-range-requires c κs = search needs
-
 returns : tie.Need-returns
 unfolding numberAnswer
 returns c = rw (sym (c .before .in-range .ensures) ∙ not-true _ (c .if1 .taken))
-
-has-requires : tie.Need-has-requires
-has-requires c κs = search needs
 
 returns-2 : tie.Need-returns-2
 unfolding numberAnswer
@@ -42,4 +36,4 @@ returns-3 c = rw (sized (c .before .before .before), there (c .before)) (ap Numb
 
 pub number-of-spec : {M : Type 1} → statement M
 number-of-spec =
-    tie.close (tie.spec in-range-requires returns has-requires returns-2 number-requires returns-3)
+    tie.close (tie.spec (λ c κs. search needs) returns (λ c κs. search needs) returns-2 number-requires returns-3)

@@ -14,9 +14,6 @@ use Rattle.mesh.proofs.entries.place_of.Tie as tie
 sized : (c : tie.Else1) → inRange (c .before .before .args .s) ≡ true
 sized c = sym (c .before .in-range .ensures) ∙ not-false _ (c .if1 .left)
 
-in-range-requires : tie.Need-in-range-requires
-in-range-requires c κs = search needs
-
 returns : tie.Need-returns
 unfolding placeAnswer
 returns c = rw (sym (c .before .in-range .ensures) ∙ not-true _ (c .if1 .taken))
@@ -42,6 +39,4 @@ returns-3 c =
     (ap Found (c .place .ensures))
 
 pub place-of-spec : {M : Type 1} → statement M
-place-of-spec =
-    tie.close
-    (tie.spec in-range-requires returns nodes-requires returns-2 place-requires returns-3)
+place-of-spec = tie.close (tie.spec (λ c κs. search needs) returns nodes-requires returns-2 place-requires returns-3)

@@ -14,9 +14,6 @@ summed : (c : tie.Start) →
     let a = c .args in toZ w32 (ofZ w32 (toZ w32 (a .c) +ℤ toZ w32 (ofZ w32 (a .s)))) ≡ pos (a .c) +ℤ a .s
 summed c = sum-back (c .args .c) (c .args .s) (c .pre .0) (c .pre .1)
 
-cast-t : tie.Need-cast-t
-cast-t c = search needs
-
 add-t : tie.Need-add-t
 add-t c =
     let a = c .args in
@@ -46,4 +43,4 @@ returns-3 c =
     rw (e, le-ltb k (s .args .n) (rw (summed s, e) at (c .if2 .left)))
 
 pub shift-spec : {M : Type 1} → statement M
-shift-spec = tie.close (tie.spec cast-t add-t returns cast-u returns-2 returns-3)
+shift-spec = tie.close (tie.spec (λ c. search needs) add-t returns cast-u returns-2 returns-3)

@@ -4,14 +4,8 @@ use borrow.Author.Needs.{needs}
 use Rattle.mesh.proofs.stepping.unit_step.Statement.{statement}
 use Rattle.mesh.proofs.stepping.unit_step.Tie as tie
 
-mul-result : tie.Need-mul-result
-mul-result c = search needs
-
-array-copy-out-result : tie.Need-array-copy-out-result
-array-copy-out-result c = search needs
-
 returns : tie.Need-returns
 returns c = refl
 
 pub unit-step-spec : {M : Type 1} → statement M
-unit-step-spec = tie.close (tie.spec mul-result array-copy-out-result returns)
+unit-step-spec = tie.close (tie.spec (λ c. search needs) (λ c. search needs) returns)

@@ -13,15 +13,6 @@ use Rattle.report.proofs.Counted.{components-granted}
 use Rattle.report.proofs.figuring.count_components.Statement.{statement}
 use Rattle.report.proofs.figuring.count_components.Tie as tie
 
-blank-table-requires : tie.Need-blank-table-requires
-blank-table-requires c κs = search needs
-
-slice-aggregate-compute : tie.Need-slice-aggregate-compute
-slice-aggregate-compute c = search needs
-
-compute-requires : tie.Need-compute-requires
-compute-requires c κs = search needs
-
 returns : tie.Need-returns
 returns c =
     let made = c .before .before .before in
@@ -35,5 +26,4 @@ returns c =
     ∙ ap (λ (a : Answer). answerValue a n) (components-granted S cells (s .pre .0) o (s .pre .1))
 
 pub count-components-spec : {M : Type 1} → statement M
-count-components-spec =
-    tie.close (tie.spec blank-table-requires slice-aggregate-compute compute-requires returns)
+count-components-spec = tie.close (tie.spec (λ c κs. search needs) (λ c. search needs) (λ c κs. search needs) returns)

@@ -32,38 +32,14 @@ as-many c =
     let a = c .before .before .before .before .before .before .args in
     c .nodes .ensures .0 ∙ sym (ap length (in-front c) ∙ marks-length (mapOf (a .s) (now (a .cells))) (a .o))
 
-blank-cells-requires : tie.Need-blank-cells-requires
-blank-cells-requires c κs = search needs
-
-slice-aggregate-marks : tie.Need-slice-aggregate-marks
-slice-aggregate-marks c = search needs
-
-marks-requires : tie.Need-marks-requires
-marks-requires c κs = search needs
-
 nodes-requires : tie.Need-nodes-requires
 nodes-requires c κs = let s = c .before .before .before .before .before in map-granted (s .args .s) (now (s .args .cells)) (s .pre .0) .sized
-
-array-share-prefix-marked : tie.Need-array-share-prefix-marked
-array-share-prefix-marked c = search needs
 
 slice-aggregate-count-marked : tie.Need-slice-aggregate-count-marked
 slice-aggregate-count-marked c = as-many (c .before)
 
-count-marked-requires : tie.Need-count-marked-requires
-count-marked-requires c κs = search needs
-
-array-share-prefix-marked-2 : tie.Need-array-share-prefix-marked-2
-array-share-prefix-marked-2 c = search needs
-
 slice-aggregate-count-marked-2 : tie.Need-slice-aggregate-count-marked-2
 slice-aggregate-count-marked-2 c = as-many (c .before .before .before)
-
-count-marked-requires-2 : tie.Need-count-marked-requires-2
-count-marked-requires-2 c κs = search needs
-
-count-components-requires : tie.Need-count-components-requires
-count-components-requires c κs = search needs
 
 returns : tie.Need-returns
 returns c =
@@ -79,17 +55,6 @@ returns c =
 
 pub figures-spec : {M : Type 1} → statement M
 figures-spec =
-    tie.close
-    (tie.spec
-    blank-cells-requires
-    slice-aggregate-marks
-    marks-requires
-    nodes-requires
-    array-share-prefix-marked
-    slice-aggregate-count-marked
-    count-marked-requires
-    array-share-prefix-marked-2
-    slice-aggregate-count-marked-2
-    count-marked-requires-2
-    count-components-requires
-    returns)
+    tie.close (tie.spec (λ c κs. search needs) (λ c. search needs) (λ c κs. search needs) nodes-requires
+    (λ c. search needs) slice-aggregate-count-marked (λ c κs. search needs) (λ c. search needs)
+    slice-aggregate-count-marked-2 (λ c κs. search needs) (λ c κs. search needs) returns)

@@ -6,27 +6,6 @@ use Rattle.report.specs.Report.{fourOnLine}
 use Rattle.report.proofs.lines.line.Statement.{statement}
 use Rattle.report.proofs.lines.line.Tie as tie
 
-say-both-requires : tie.Need-say-both-requires
-say-both-requires c κs = search needs
-
-say-both-requires-2 : tie.Need-say-both-requires-2
-say-both-requires-2 c κs = search needs
-
-say-both-requires-3 : tie.Need-say-both-requires-3
-say-both-requires-3 c κs = search needs
-
-say-both-requires-4 : tie.Need-say-both-requires-4
-say-both-requires-4 c κs = search needs
-
-slice-aggregate-say : tie.Need-slice-aggregate-say
-slice-aggregate-say c = search needs
-
-say-requires : tie.Need-say-requires
-say-requires c κs = search needs
-
-same-length : tie.Need-same-length
-same-length c = search needs
-
 returns : tie.Need-returns
 unfolding fourOnLine
 returns c =
@@ -50,13 +29,5 @@ returns c =
 
 pub line-spec : {M : Type 1} → statement M
 line-spec =
-    tie.close
-    (tie.spec
-    say-both-requires
-    say-both-requires-2
-    say-both-requires-3
-    say-both-requires-4
-    slice-aggregate-say
-    say-requires
-    same-length
-    returns)
+    tie.close (tie.spec (λ c κs. search needs) (λ c κs. search needs) (λ c κs. search needs) (λ c κs. search needs)
+    (λ c. search needs) (λ c κs. search needs) (λ c. search needs) returns)

@@ -6,21 +6,6 @@ use Rattle.report.specs.Report.{refusalLine}
 use Rattle.report.proofs.lines.refusal_line.Statement.{statement}
 use Rattle.report.proofs.lines.refusal_line.Tie as tie
 
-slice-aggregate-say-both : tie.Need-slice-aggregate-say-both
-slice-aggregate-say-both c = search needs
-
-say-both-requires : tie.Need-say-both-requires
-say-both-requires c κs = search needs
-
-slice-aggregate-say : tie.Need-slice-aggregate-say
-slice-aggregate-say c = search needs
-
-say-requires : tie.Need-say-requires
-say-requires c κs = search needs
-
-same-length : tie.Need-same-length
-same-length c = search needs
-
 returns : tie.Need-returns
 unfolding refusalLine
 returns c =
@@ -32,11 +17,5 @@ returns c =
 
 pub refusal-line-spec : {M : Type 1} → statement M
 refusal-line-spec =
-    tie.close
-    (tie.spec
-    slice-aggregate-say-both
-    say-both-requires
-    slice-aggregate-say
-    say-requires
-    same-length
-    returns)
+    tie.close (tie.spec (λ c. search needs) (λ c κs. search needs) (λ c. search needs) (λ c κs. search needs)
+    (λ c. search needs) returns)

@@ -9,18 +9,6 @@ use Rattle.report.proofs.Counted.{faulty-counted}
 use Rattle.report.proofs.reporting.map_report.Statement.{statement}
 use Rattle.report.proofs.reporting.map_report.Tie as tie
 
-count-faulty-requires : tie.Need-count-faulty-requires
-count-faulty-requires c κs = search needs
-
-first-line-requires : tie.Need-first-line-requires
-first-line-requires c κs = search needs
-
-octant-lines-requires : tie.Need-octant-lines-requires
-octant-lines-requires c κs = search needs
-
-same-length : tie.Need-same-length
-same-length c = search needs
-
 returns : tie.Need-returns
 returns c =
     let rest = c .before .before in
@@ -36,5 +24,5 @@ returns c =
 
 pub map-report-spec : {M : Type 1} → statement M
 map-report-spec =
-    tie.close
-    (tie.spec count-faulty-requires first-line-requires octant-lines-requires same-length returns)
+    tie.close (tie.spec (λ c κs. search needs) (λ c κs. search needs) (λ c κs. search needs) (λ c. search needs)
+    returns)

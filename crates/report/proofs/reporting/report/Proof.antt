@@ -54,26 +54,11 @@ cells-are c =
     ∙ ap (take (nodes (told .before .s .given .0 .0))) (read .read-map .ensures .1)
     ∙ in-front file 4096 (told .before .s .given .0 .0) (answer-is told) (made .blank-cells .result) (made .blank-cells .ensures)
 
-blank-cells-requires : tie.Need-blank-cells-requires
-blank-cells-requires c κs = search needs
-
-slice-aggregate-read-map : tie.Need-slice-aggregate-read-map
-slice-aggregate-read-map c = search needs
-
-read-map-requires : tie.Need-read-map-requires
-read-map-requires c κs = search needs
-
-enum-known-s : tie.Need-enum-known-s
-enum-known-s c = search needs
-
 nodes-requires : tie.Need-nodes-requires
 nodes-requires c κs =
     let file = now (c .before .before .before .before .before .before .before .before .before .args .file) in
     let S = c .before .s .given .0 .0 in
     in-range file 4096 S (answer-is c)
-
-array-share-prefix-cells : tie.Need-array-share-prefix-cells
-array-share-prefix-cells c = search needs
 
 slice-aggregate-map-report : tie.Need-slice-aggregate-map-report
 slice-aggregate-map-report c =
@@ -90,21 +75,6 @@ map-report-requires c κs =
     let S = told .before .s .given .0 .0 in
     (ap (checkMap S) (cells-are n) ∙ in-order (now (s .args .file)) 4096 S (answer-is told), s .pre)
 
-enum-known-r : tie.Need-enum-known-r
-enum-known-r c = search needs
-
-number-requires : tie.Need-number-requires
-number-requires c κs = search needs
-
-cast-refusal-line : tie.Need-cast-refusal-line
-cast-refusal-line c = search needs
-
-refusal-line-requires : tie.Need-refusal-line-requires
-refusal-line-requires c κs = search needs
-
-same-length : tie.Need-same-length
-same-length c = search needs
-
 returns : tie.Need-returns
 returns c =
     let called = c .before .before in
@@ -116,9 +86,6 @@ returns c =
       said-as e (called .map-report .ensures .0),
       called .map-report .ensures .1,
     )
-
-same-length-2 : tie.Need-same-length-2
-same-length-2 c = search needs
 
 returns-2 : tie.Need-returns-2
 returns-2 c =
@@ -137,21 +104,7 @@ returns-2 c =
 
 pub report-spec : {M : Type 1} → statement M
 report-spec =
-    tie.close
-    (tie.spec
-    blank-cells-requires
-    slice-aggregate-read-map
-    read-map-requires
-    enum-known-s
-    nodes-requires
-    array-share-prefix-cells
-    slice-aggregate-map-report
-    map-report-requires
-    enum-known-r
-    number-requires
-    cast-refusal-line
-    refusal-line-requires
-    same-length
-    returns
-    same-length-2
+    tie.close (tie.spec (λ c κs. search needs) (λ c. search needs) (λ c κs. search needs) (λ c. search needs)
+    nodes-requires (λ c. search needs) slice-aggregate-map-report map-report-requires (λ c. search needs)
+    (λ c κs. search needs) (λ c. search needs) (λ c κs. search needs) (λ c. search needs) returns (λ c. search needs)
     returns-2)

@@ -6,58 +6,14 @@ use lib.Seq.{length-take-le}
 use Rattle.report.proofs.running.run.Statement.{statement}
 use Rattle.report.proofs.running.run.Tie as tie
 
-blank-file-requires : tie.Need-blank-file-requires
-blank-file-requires c κs = search needs
-
-slice-aggregate-read-full : tie.Need-slice-aggregate-read-full
-slice-aggregate-read-full c = search needs
-
-read-full-requires : tie.Need-read-full-requires
-read-full-requires c κs = search needs
-
-blank-text-requires : tie.Need-blank-text-requires
-blank-text-requires c κs = search needs
-
-array-share-prefix-file : tie.Need-array-share-prefix-file
-array-share-prefix-file c = search needs
-
-slice-aggregate-report : tie.Need-slice-aggregate-report
-slice-aggregate-report c = search needs
-
-slice-aggregate-report-2 : tie.Need-slice-aggregate-report-2
-slice-aggregate-report-2 c = search needs
-
-report-requires : tie.Need-report-requires
-report-requires c κs = search needs
-
-array-share-prefix-text : tie.Need-array-share-prefix-text
-array-share-prefix-text c = search needs
-
 slice-aggregate-write-all : tie.Need-slice-aggregate-write-all
 slice-aggregate-write-all c =
     let told = c .before .before in
     let r = told .report in
     sym (length-take-le (r .result) (r .last .1 .0) (omega (arith, r .ensures .1, r .kept .1 .0, told .before .before .before .blank-text .ensures)))
 
-write-all-requires : tie.Need-write-all-requires
-write-all-requires c κs = search needs
-
-returns : tie.Need-returns
-returns c = search needs
-
 pub run-spec : {M : Type 1} → statement M
 run-spec =
-    tie.close
-    (tie.spec
-    blank-file-requires
-    slice-aggregate-read-full
-    read-full-requires
-    blank-text-requires
-    array-share-prefix-file
-    slice-aggregate-report
-    slice-aggregate-report-2
-    report-requires
-    array-share-prefix-text
-    slice-aggregate-write-all
-    write-all-requires
-    returns)
+    tie.close (tie.spec (λ c κs. search needs) (λ c. search needs) (λ c κs. search needs) (λ c κs. search needs)
+    (λ c. search needs) (λ c. search needs) (λ c. search needs) (λ c κs. search needs) (λ c. search needs)
+    slice-aggregate-write-all (λ c κs. search needs) (λ c. search needs))

@@ -19,12 +19,6 @@ below b c = split (ltb b c)
     split true = refl
     split false = le-ltb (b - c) 0 (omega arith)
 
-difference-requires : tie.Need-difference-requires
-difference-requires c κs = search needs
-
-size-requires : tie.Need-size-requires
-size-requires c κs = search needs
-
 returns : tie.Need-returns
 returns c =
     let d = c .before .difference in
@@ -32,4 +26,4 @@ returns c =
     rw (c .size .ensures .0, back (d .result) (omega arith), d .ensures .0, below (a .to) (a .from))
 
 pub run-spec : {M : Type 1} → statement M
-run-spec = tie.close (tie.spec difference-requires size-requires returns)
+run-spec = tie.close (tie.spec (λ c κs. search needs) (λ c κs. search needs) returns)

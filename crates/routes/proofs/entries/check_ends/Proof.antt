@@ -34,15 +34,6 @@ start-may : (c : tie.Else3) →
     mayEnd (getD (now (a .cells)) (a .start) 0) ≡ true
 start-may c = sym (c .before .may-end .ensures) ∙ not-false _ (c .if3 .left)
 
-check-map-requires : tie.Need-check-map-requires
-check-map-requires c κs = search needs
-
-enum-told : tie.Need-enum-told
-enum-told c = search needs
-
-enum-told-2 : tie.Need-enum-told-2
-enum-told-2 c = search needs
-
 returns : tie.Need-returns
 returns c =
     let a = c .before .before .before .before .args in
@@ -71,9 +62,6 @@ shared-slice-read-may-end c =
     let k = checked (c .before .before .before .before .before) in
     omega (arith, k .whole, c .before .before .before .before .nodes .ensures .0, c .before .before .before .if1 .left)
 
-may-end-requires : tie.Need-may-end-requires
-may-end-requires c κs = search needs
-
 returns-4 : tie.Need-returns-4
 returns-4 c =
     let past = c .before .before .before in
@@ -86,9 +74,6 @@ shared-slice-read-may-end-2 c =
     let past = c .before .before .before .before in
     let k = checked (past .before .before .before .before) in
     omega (arith, k .whole, past .before .nodes2 .ensures .0, past .if2 .left)
-
-may-end-requires-2 : tie.Need-may-end-requires-2
-may-end-requires-2 c κs = search needs
 
 returns-5 : tie.Need-returns-5
 returns-5 c =
@@ -108,20 +93,6 @@ returns-6 c =
 
 pub check-ends-spec : {M : Type 1} → statement M
 check-ends-spec =
-    tie.close
-    (tie.spec
-    check-map-requires
-    enum-told
-    enum-told-2
-    returns
-    nodes-requires
-    returns-2
-    nodes-requires-2
-    returns-3
-    shared-slice-read-may-end
-    may-end-requires
-    returns-4
-    shared-slice-read-may-end-2
-    may-end-requires-2
-    returns-5
-    returns-6)
+    tie.close (tie.spec (λ c κs. search needs) (λ c. search needs) (λ c. search needs) returns nodes-requires returns-2
+    nodes-requires-2 returns-3 shared-slice-read-may-end (λ c κs. search needs) returns-4 shared-slice-read-may-end-2
+    (λ c κs. search needs) returns-5 returns-6)

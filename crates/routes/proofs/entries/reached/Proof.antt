@@ -29,20 +29,11 @@ ends c = let a = c .before .before .before .before .before .args in ends-granted
 room : (c : tie.Else1) → let a = c .before .before .before .before .before .before .before .args in nodes (a .s) ≤ length (now (a .out))
 room c = rw (c .before .nodes .ensures .0) at (c .if1 .left)
 
-check-ends-requires : tie.Need-check-ends-requires
-check-ends-requires c κs = search needs
-
-enum-known-a : tie.Need-enum-known-a
-enum-known-a c = search needs
-
 returns : tie.Need-returns
 returns c =
     let a = c .before .before .before .before .before .before .args in
     reached-refused (a .s) (now (a .cells)) (a .start) (a .end) (now (a .out)) (c .before .a .given .0 .0)
     (sym (c .before .before .before .check-ends .ensures) ∙ c .before .a .given .1)
-
-enum-told : tie.Need-enum-told
-enum-told c = search needs
 
 nodes-requires : tie.Need-nodes-requires
 nodes-requires c κs = ends c .sized
@@ -73,9 +64,6 @@ total-requires c κs =
           (rw (← w .before .before .before .place .ensures, ← w .before .before .place2 .ensures) (w .write-reached .ensures))),
     )
 
-same-length : tie.Need-same-length
-same-length c = search needs
-
 returns-3 : tie.Need-returns-3
 returns-3 c =
     let w = c .before .before .before .before in
@@ -88,17 +76,5 @@ returns-3 c =
 
 pub reached-spec : {M : Type 1} → statement M
 reached-spec =
-    tie.close
-    (tie.spec
-    check-ends-requires
-    enum-known-a
-    returns
-    enum-told
-    nodes-requires
-    returns-2
-    place-requires
-    place-requires-2
-    write-reached-requires
-    total-requires
-    same-length
-    returns-3)
+    tie.close (tie.spec (λ c κs. search needs) (λ c. search needs) returns (λ c. search needs) nodes-requires returns-2
+    place-requires place-requires-2 write-reached-requires total-requires (λ c. search needs) returns-3)

@@ -22,20 +22,11 @@ ends : (c : tie.After-enum-told) →
     Ends (a .s) (now (a .cells)) (placeOf (a .s) (a .start)) (placeOf (a .s) (a .end))
 ends c = let a = c .before .before .before .before .before .args in ends-granted (a .s) (now (a .cells)) (a .start) (a .end) (good c)
 
-check-ends-requires : tie.Need-check-ends-requires
-check-ends-requires c κs = search needs
-
-enum-known-a : tie.Need-enum-known-a
-enum-known-a c = search needs
-
 returns : tie.Need-returns
 returns c =
     let a = c .before .before .before .before .before .before .args in
     route-refused (a .s) (now (a .cells)) (a .start) (a .end) (now (a .out)) (c .before .a .given .0 .0)
     (sym (c .before .before .before .check-ends .ensures) ∙ c .before .a .given .1)
-
-enum-told : tie.Need-enum-told
-enum-told c = search needs
 
 place-requires : tie.Need-place-requires
 place-requires c κs = ends c .sized
@@ -45,9 +36,6 @@ place-requires-2 c κs = ends (c .before) .sized
 
 write-route-requires : tie.Need-write-route-requires
 write-route-requires c κs = rw (c .before .before .place .ensures, c .before .place2 .ensures) (ends (c .before .before .before))
-
-same-length : tie.Need-same-length
-same-length c = search needs
 
 returns-2 : tie.Need-returns-2
 returns-2 c =
@@ -59,14 +47,5 @@ returns-2 c =
 
 pub route-spec : {M : Type 1} → statement M
 route-spec =
-    tie.close
-    (tie.spec
-    check-ends-requires
-    enum-known-a
-    returns
-    enum-told
-    place-requires
-    place-requires-2
-    write-route-requires
-    same-length
-    returns-2)
+    tie.close (tie.spec (λ c κs. search needs) (λ c. search needs) returns (λ c. search needs) place-requires
+    place-requires-2 write-route-requires (λ c. search needs) returns-2)

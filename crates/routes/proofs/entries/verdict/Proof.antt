@@ -64,20 +64,11 @@ granted c l =
     let a = c .before .before .before .before .before .before .before .before .args in
     rw (counted (c .before), set-is c) (verdict-0 (a .s) (now (a .cells)) (a .start) (a .end) (good (c .before .before .before .before)) l)
 
-check-ends-requires : tie.Need-check-ends-requires
-check-ends-requires c κs = search needs
-
-enum-known-a : tie.Need-enum-known-a
-enum-known-a c = search needs
-
 returns : tie.Need-returns
 returns c =
     let a = c .before .before .before .before .before .args in
     verdict-refused (a .s) (now (a .cells)) (a .start) (a .end) (c .before .a .given .0 .0)
     (sym (c .before .before .before .check-ends .ensures) ∙ c .before .a .given .1)
-
-enum-told : tie.Need-enum-told
-enum-told c = search needs
 
 place-requires : tie.Need-place-requires
 place-requires c κs = ends c .sized
@@ -121,16 +112,5 @@ returns-4 c =
 
 pub verdict-spec : {M : Type 1} → statement M
 verdict-spec =
-    tie.close
-    (tie.spec
-    check-ends-requires
-    enum-known-a
-    returns
-    enum-told
-    place-requires
-    place-requires-2
-    hops-requires
-    offered-requires
-    returns-2
-    returns-3
-    returns-4)
+    tie.close (tie.spec (λ c κs. search needs) (λ c. search needs) returns (λ c. search needs) place-requires
+    place-requires-2 hops-requires offered-requires returns-2 returns-3 returns-4)

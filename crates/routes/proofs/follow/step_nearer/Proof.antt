@@ -26,9 +26,6 @@ left c =
       λ h. entered-left (now (a .table)) (slot (a .t)) 256 (a .t .z) (sym (ap (λ (w : Ways). w .z) f) ∙ h),
     )
 
-ways-from-requires : tie.Need-ways-from-requires
-ways-from-requires c κs = search needs
-
 sub-t5 : tie.Need-sub-t5
 sub-t5 c = let (x, y, z) = left (c .before .before .before) in search (x, y, z, c .before .if1 .taken)
 
@@ -55,4 +52,5 @@ returns-4 c =
     ∙ told (c .before .before .before .before .before .before)
 
 pub step-nearer-spec : {M : Type 1} → statement M
-step-nearer-spec = tie.close (tie.spec ways-from-requires sub-t5 returns sub-t6 returns-2 sub-t7 returns-3 returns-4)
+step-nearer-spec =
+    tie.close (tie.spec (λ c κs. search needs) sub-t5 returns sub-t6 returns-2 sub-t7 returns-3 returns-4)

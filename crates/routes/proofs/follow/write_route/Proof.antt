@@ -59,29 +59,8 @@ full c =
 corner : (c : tie.After-far) → c .far .result ≡ far (box-of (c .before .before .before .before .before .before .before .before .before .before))
 corner c = c .far .ensures ∙ ap far (c .before .before .before .before .before .before .between .ensures)
 
-hops-requires : tie.Need-hops-requires
-hops-requires c κs = search needs
-
-add-n : tie.Need-add-n
-add-n c = search needs
-
-between-requires : tie.Need-between-requires
-between-requires c κs = search needs
-
-blank-requires : tie.Need-blank-requires
-blank-requires c κs = search needs
-
-slice-aggregate-keep-all : tie.Need-slice-aggregate-keep-all
-slice-aggregate-keep-all c = search needs
-
 keep-all-requires : tie.Need-keep-all-requires
 keep-all-requires c κs = (rw (c .before .before .between .ensures) (ready (c .before .before .before .before .before .before)), c .before .blank .ensures)
-
-slice-aggregate-ways-from : tie.Need-slice-aggregate-ways-from
-slice-aggregate-ways-from c = search needs
-
-far-requires : tie.Need-far-requires
-far-requires c κs = search needs
 
 ways-from-requires : tie.Need-ways-from-requires
 ways-from-requires c κs = (long (c .before .before .before), rw (corner c) (small (c .before .before .before .before .before .before .before .before .before .before)))
@@ -130,17 +109,11 @@ returns-2 c =
     let s = h .before .before .before in
     routed-3 (map-of s) (s .args .p) (s .args .e) (now (s .args .out)) (told o ∙ not-false _ (c .before .if1 .left)) (rw (h .hops .ensures .0) at (c .if2 .taken))
 
-slice-aggregate-follow : tie.Need-slice-aggregate-follow
-slice-aggregate-follow c = search needs
-
 follow-requires : tie.Need-follow-requires
 follow-requires c κs =
     let k = c .before .before .before .before .before .before .before .before .before in
     let s = k .before .before .before .before .before .before .before in
     (s .pre .sized, rw (k .before .before .before .between .ensures) (ready s .held), long k, c .before .before .if2 .left)
-
-same-length : tie.Need-same-length
-same-length c = search needs
 
 filled-by : (S : Sizes) (table old new : List ℕ) (g g′ : Between) (n n′ : ℕ) → g ≡ g′ → n ≡ n′
     → Filled (λ i. i) (λ i. number S (reach g (trail g table i))) old new n → Filled (λ i. i) (λ i. number S (reach g′ (trail g′ table i))) old new n′
@@ -165,21 +138,6 @@ returns-3 c =
 
 pub write-route-spec : {M : Type 1} → statement M
 write-route-spec =
-    tie.close
-    (tie.spec
-    hops-requires
-    add-n
-    between-requires
-    blank-requires
-    slice-aggregate-keep-all
-    keep-all-requires
-    slice-aggregate-ways-from
-    far-requires
-    ways-from-requires
-    leads-on-requires
-    returns
-    returns-2
-    slice-aggregate-follow
-    follow-requires
-    same-length
-    returns-3)
+    tie.close (tie.spec (λ c κs. search needs) (λ c. search needs) (λ c κs. search needs) (λ c κs. search needs)
+    (λ c. search needs) keep-all-requires (λ c. search needs) (λ c κs. search needs) ways-from-requires
+    leads-on-requires returns returns-2 (λ c. search needs) follow-requires (λ c. search needs) returns-3)

@@ -40,17 +40,11 @@ is-way c = sym (told (c .before .before)) ∙ c .w .given .1
 low : (c : tie.After-w) → c .w .given .0 .0 < 6
 low c = let s = c .before .before .before in way-lt (s .args .up) (s .args .d) (c .w .given .0 .0) (s .pre .0) (is-way c)
 
-enum-known-w : tie.Need-enum-known-w
-enum-known-w c = search needs
-
 cast-result : tie.Need-cast-result
 cast-result c = omega (arith, low (c .before))
 
 shl-result : tie.Need-shl-result
 shl-result c = omega (arith, low (c .before))
-
-enum-told : tie.Need-enum-told
-enum-told c = search needs
 
 returns : tie.Need-returns
 returns c =
@@ -64,4 +58,5 @@ returns-2 c =
     (sym (ap (λ (w : Wanted). flagOf w (a .seen)) (sym (told (c .before .before)) ∙ c .enum-told .given .1)), omega arith)
 
 pub flag-spec : {M : Type 1} → statement M
-flag-spec = tie.close (tie.spec way-requires enum-known-w cast-result shl-result enum-told returns returns-2)
+flag-spec =
+    tie.close (tie.spec way-requires (λ c. search needs) cast-result shl-result (λ c. search needs) returns returns-2)

@@ -7,14 +7,8 @@ use Rattle.routes.proofs.offers.leads_on.Tie as tie
 returns : tie.Need-returns
 returns c = rw (eq-eqb _ _ (c .if1 .taken))
 
-add-result : tie.Need-add-result
-add-result c = search needs
-
-add-result-2 : tie.Need-add-result-2
-add-result-2 c = search needs
-
 returns-2 : tie.Need-returns-2
 returns-2 c = rw (ne-eqb _ _ (c .before .before .if1 .left))
 
 pub leads-on-spec : {M : Type 1} → statement M
-leads-on-spec = tie.close (tie.spec returns add-result add-result-2 returns-2)
+leads-on-spec = tie.close (tie.spec returns (λ c. search needs) (λ c. search needs) returns-2)

@@ -44,42 +44,24 @@ low c =
     ways-le (c .ways .result) (ahead (mapOf (s .args .s) (now (s .args .cells))) (s .args .p) (s .args .e) (s .pre .start-in) (s .pre .end-in))
     (far (between (s .args .e) (s .args .p))) (told c)
 
-between-requires : tie.Need-between-requires
-between-requires c κs = search needs
-
 ways-requires : tie.Need-ways-requires
 ways-requires c κs =
     let s = c .before .before in
     rw (c .between .ensures)
     (record { sized = s .pre .sized; whole = s .pre .whole; held = held (s .args .s) (s .args .e) (s .args .p) (s .pre .end-in) (s .pre .start-in) })
 
-difference-requires : tie.Need-difference-requires
-difference-requires c κs = search needs
-
 flag-requires : tie.Need-flag-requires
 flag-requires c κs = let d = c .difference in (omega arith, rw (back (d .result) (omega arith)) (d .ensures .1), low (c .before) .0)
-
-difference-requires-2 : tie.Need-difference-requires-2
-difference-requires-2 c κs = search needs
 
 flag-requires-2 : tie.Need-flag-requires-2
 flag-requires-2 c κs =
     let d = c .difference2 in
     (omega arith, rw (back (d .result) (omega arith)) (d .ensures .1), low (c .before .before .before) .1)
 
-add-result : tie.Need-add-result
-add-result c = search needs
-
-difference-requires-3 : tie.Need-difference-requires-3
-difference-requires-3 c κs = search needs
-
 flag-requires-3 : tie.Need-flag-requires-3
 flag-requires-3 c κs =
     let d = c .difference3 in
     (omega arith, rw (back (d .result) (omega arith)) (d .ensures .1), low (c .before .before .before .before .before) .2)
-
-add-result-2 : tie.Need-add-result-2
-add-result-2 c = search needs
 
 returns : tie.Need-returns
 returns c =
@@ -98,16 +80,5 @@ returns c =
 
 pub offered-spec : {M : Type 1} → statement M
 offered-spec =
-    tie.close
-    (tie.spec
-    between-requires
-    ways-requires
-    difference-requires
-    flag-requires
-    difference-requires-2
-    flag-requires-2
-    add-result
-    difference-requires-3
-    flag-requires-3
-    add-result-2
-    returns)
+    tie.close (tie.spec (λ c κs. search needs) ways-requires (λ c κs. search needs) flag-requires (λ c κs. search needs)
+    flag-requires-2 (λ c. search needs) (λ c κs. search needs) flag-requires-3 (λ c. search needs) returns)

@@ -21,18 +21,6 @@ mul-k c = omega (arith, small (c .before))
 add-k : tie.Need-add-k
 add-k c = omega (arith, small (c .before))
 
-seeded-requires : tie.Need-seeded-requires
-seeded-requires c κs = search needs
-
-slice-aggregate-sweep : tie.Need-slice-aggregate-sweep
-slice-aggregate-sweep c = search needs
-
-sweep-requires : tie.Need-sweep-requires
-sweep-requires c κs = search needs
-
-slice-aggregate-entered : tie.Need-slice-aggregate-entered
-slice-aggregate-entered c = search needs
-
 -- the bytes keep their length
 long : (c : tie.After-sweep) → length (c .sweep .last .1 .1 .1 .1 .0) ≡ 256
 long c = c .sweep .kept .1 .1 .1 .1 .0 ∙ ap length (c .before .before .seeded .ensures)
@@ -46,22 +34,10 @@ entered-requires c κs =
     let e = long (c .before .before) in
     omega (arith, small s)
 
-slice-aggregate-sweep-layer : tie.Need-slice-aggregate-sweep-layer
-slice-aggregate-sweep-layer c = search needs
-
-sweep-layer-requires : tie.Need-sweep-layer-requires
-sweep-layer-requires c κs = search needs
-
-slice-aggregate-entered-2 : tie.Need-slice-aggregate-entered-2
-slice-aggregate-entered-2 c = search needs
-
 entered-requires-2 : tie.Need-entered-requires-2
 entered-requires-2 c κs =
     let e = long-still (c .before .before) in
     omega (arith, small (c .before .before .before .before .before .before .before .before .before .before .before))
-
-slice-aggregate-entered-3 : tie.Need-slice-aggregate-entered-3
-slice-aggregate-entered-3 c = search needs
 
 entered-requires-3 : tie.Need-entered-requires-3
 entered-requires-3 c κs =
@@ -83,19 +59,6 @@ returns c =
 
 pub ways-spec : {M : Type 1} → statement M
 ways-spec =
-    tie.close
-    (tie.spec
-    mul-k
-    add-k
-    seeded-requires
-    slice-aggregate-sweep
-    sweep-requires
-    slice-aggregate-entered
-    entered-requires
-    slice-aggregate-sweep-layer
-    sweep-layer-requires
-    slice-aggregate-entered-2
-    entered-requires-2
-    slice-aggregate-entered-3
-    entered-requires-3
-    returns)
+    tie.close (tie.spec mul-k add-k (λ c κs. search needs) (λ c. search needs) (λ c κs. search needs)
+    (λ c. search needs) entered-requires (λ c. search needs) (λ c κs. search needs) (λ c. search needs)
+    entered-requires-2 (λ c. search needs) entered-requires-3 returns)

@@ -7,12 +7,6 @@ use Rattle.mesh.proofs.Whole.{diff-is, mag-diff, small, back}
 use Rattle.routes.proofs.signed.difference.Statement.{statement}
 use Rattle.routes.proofs.signed.difference.Tie as tie
 
-cast-result : tie.Need-cast-result
-cast-result c = search needs
-
-cast-result-2 : tie.Need-cast-result-2
-cast-result-2 c = search needs
-
 sub-result : tie.Need-sub-result
 sub-result c =
     let a = c .args in
@@ -27,4 +21,4 @@ returns c =
     rw (diff-is (a .to) (a .from) (c .pre .1) (c .pre .0), b) (refl, m)
 
 pub difference-spec : {M : Type 1} → statement M
-difference-spec = tie.close (tie.spec cast-result cast-result-2 sub-result returns)
+difference-spec = tie.close (tie.spec (λ c. search needs) (λ c. search needs) sub-result returns)

@@ -17,30 +17,6 @@ use Rattle.routes.proofs.signed.hops.Tie as tie
 sent : (n : ℕ) (z d : ℤ) → n ≡ natAbs (toZ w32 (ofZ w32 z)) → (z ≡ d) × (mag z < 16) → n ≡ natAbs d
 sent n z d e h = e ∙ ap natAbs (back z (omega arith) ∙ h .0)
 
-difference-requires : tie.Need-difference-requires
-difference-requires c κs = search needs
-
-size-requires : tie.Need-size-requires
-size-requires c κs = search needs
-
-difference-requires-2 : tie.Need-difference-requires-2
-difference-requires-2 c κs = search needs
-
-size-requires-2 : tie.Need-size-requires-2
-size-requires-2 c κs = search needs
-
-add-result : tie.Need-add-result
-add-result c = search needs
-
-difference-requires-3 : tie.Need-difference-requires-3
-difference-requires-3 c κs = search needs
-
-size-requires-3 : tie.Need-size-requires-3
-size-requires-3 c κs = search needs
-
-add-result-2 : tie.Need-add-result-2
-add-result-2 c = search needs
-
 returns : tie.Need-returns
 unfolding hops
 returns c =
@@ -55,14 +31,5 @@ returns c =
 
 pub hops-spec : {M : Type 1} → statement M
 hops-spec =
-    tie.close
-    (tie.spec
-    difference-requires
-    size-requires
-    difference-requires-2
-    size-requires-2
-    add-result
-    difference-requires-3
-    size-requires-3
-    add-result-2
-    returns)
+    tie.close (tie.spec (λ c κs. search needs) (λ c κs. search needs) (λ c κs. search needs) (λ c κs. search needs)
+    (λ c. search needs) (λ c κs. search needs) (λ c κs. search needs) (λ c. search needs) returns)

@@ -11,9 +11,6 @@ returns c =
     let (k, e) = above-zero d (rw (back d (omega arith)) at (c .if1 .taken)) in
     rw e
 
-add-t4 : tie.Need-add-t4
-add-t4 c = search needs
-
 returns-2 : tie.Need-returns-2
 returns-2 c =
     let d = c .before .before .args .d in
@@ -27,4 +24,4 @@ returns-3 c =
     rw e
 
 pub way-spec : {M : Type 1} → statement M
-way-spec = tie.close (tie.spec returns add-t4 returns-2 returns-3)
+way-spec = tie.close (tie.spec returns (λ c. search needs) returns-2 returns-3)

@@ -42,41 +42,14 @@ mul-k c = omega (arith, small (c .before .before))
 add-k : tie.Need-add-k
 add-k c = omega (arith, small (c .before .before))
 
-seeded-requires : tie.Need-seeded-requires
-seeded-requires c κs = search needs
-
-slice-aggregate-show-layers : tie.Need-slice-aggregate-show-layers
-slice-aggregate-show-layers c = search needs
-
-show-layers-requires : tie.Need-show-layers-requires
-show-layers-requires c κs = search needs
-
-slice-aggregate-entered : tie.Need-slice-aggregate-entered
-slice-aggregate-entered c = search needs
-
 entered-requires : tie.Need-entered-requires
 entered-requires c κs = let e = long (c .before .before .before .before) in omega (arith, small (c .before .before .before .before .before .before .before .before .before .before))
-
-slice-aggregate-show-layer : tie.Need-slice-aggregate-show-layer
-slice-aggregate-show-layer c = search needs
-
-show-layer-requires : tie.Need-show-layer-requires
-show-layer-requires c κs = search needs
-
-slice-aggregate-entered-2 : tie.Need-slice-aggregate-entered-2
-slice-aggregate-entered-2 c = search needs
 
 entered-requires-2 : tie.Need-entered-requires-2
 entered-requires-2 c κs = let e = long-still (c .before .before .before .before) in omega (arith, small (c .before .before .before .before .before .before .before .before .before .before .before .before .before .before .before .before .before .before))
 
-slice-aggregate-entered-3 : tie.Need-slice-aggregate-entered-3
-slice-aggregate-entered-3 c = search needs
-
 entered-requires-3 : tie.Need-entered-requires-3
 entered-requires-3 c κs = let e = long-still (c .before .before .before .before .before .before) in omega (arith, small (c .before .before .before .before .before .before .before .before .before .before .before .before .before .before .before .before .before .before .before .before))
-
-same-length : tie.Need-same-length
-same-length c = search needs
 
 returns : tie.Need-returns
 returns c =
@@ -96,20 +69,6 @@ returns c =
 
 pub spread-spec : {M : Type 1} → statement M
 spread-spec =
-    tie.close
-    (tie.spec
-    mul-k
-    add-k
-    seeded-requires
-    slice-aggregate-show-layers
-    show-layers-requires
-    slice-aggregate-entered
-    entered-requires
-    slice-aggregate-show-layer
-    show-layer-requires
-    slice-aggregate-entered-2
-    entered-requires-2
-    slice-aggregate-entered-3
-    entered-requires-3
-    same-length
-    returns)
+    tie.close (tie.spec mul-k add-k (λ c κs. search needs) (λ c. search needs) (λ c κs. search needs)
+    (λ c. search needs) entered-requires (λ c. search needs) (λ c κs. search needs) (λ c. search needs)
+    entered-requires-2 (λ c. search needs) entered-requires-3 (λ c. search needs) returns)

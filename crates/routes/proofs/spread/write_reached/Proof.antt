@@ -54,15 +54,6 @@ cleared c =
     let s = c .before .before .before .before .before in
     subst (λ (n : ℕ). Filled (λ i. i) (λ i. 0) (now (s .args .out)) (c .clear .last .0) n) (c .before .nodes .ensures .0) (c .clear .ensures)
 
-nodes-requires : tie.Need-nodes-requires
-nodes-requires c κs = search needs
-
-clear-requires : tie.Need-clear-requires
-clear-requires c κs = search needs
-
-between-requires : tie.Need-between-requires
-between-requires c κs = search needs
-
 spread-requires : tie.Need-spread-requires
 spread-requires c κs =
     let s = c .before .before .before .before .before .before .before .before .before in
@@ -72,9 +63,6 @@ spread-requires c κs =
           (record { sized = p .sized; whole = p .whole; held = held (a .s) (a .p) (a .e) (p .start-in) (p .end-in) }),
       omega (arith, cleared (c .before .before .before .before) .size, s .pre .1),
     )
-
-hops-requires : tie.Need-hops-requires
-hops-requires c κs = search needs
 
 leads-on-requires : tie.Need-leads-on-requires
 leads-on-requires c κs =
@@ -96,15 +84,6 @@ told c =
     ∙ asked (c .before .hops .result) (hops (s .args .p) (s .args .e)) (w .spread .result) (c .before .hops .ensures .0)
     ∙ sym (end-ways (map-of s) (s .args .p) (s .args .e) (s .pre .0 .start-in) (s .pre .0 .end-in) (s .pre .0 .end-may) (w .spread .result) (ways w))
 
-cast-out : tie.Need-cast-out
-cast-out c = search needs
-
-number-requires : tie.Need-number-requires
-number-requires c κs = search needs
-
-slice-write-out : tie.Need-slice-write-out
-slice-write-out c = search needs
-
 same-length : tie.Need-same-length
 same-length c = length-set (c .before .before .before .before .before .spread .last .1 .1 .1 .0) (c .number .result) (bit (c .before .leads-on .result)) ∙ c .before .before .before .before .before .spread .kept .1 .1 .1 .0 ∙ c .before .before .before .before .before .before .before .before .before .before .clear .kept .0
 
@@ -119,16 +98,6 @@ returns c =
 
 pub write-reached-spec : {M : Type 1} → statement M
 write-reached-spec =
-    tie.close
-    (tie.spec
-    nodes-requires
-    clear-requires
-    between-requires
-    spread-requires
-    hops-requires
-    leads-on-requires
-    cast-out
-    number-requires
-    slice-write-out
-    same-length
+    tie.close (tie.spec (λ c κs. search needs) (λ c κs. search needs) (λ c κs. search needs) spread-requires
+    (λ c κs. search needs) leads-on-requires (λ c. search needs) (λ c κs. search needs) (λ c. search needs) same-length
     returns)

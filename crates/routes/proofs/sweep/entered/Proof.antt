@@ -11,11 +11,8 @@ returns c = rw (le-ltb 0 (c .before .args .left) (omega arith))
 sub-result : tie.Need-sub-result
 sub-result c = omega (arith, c .before .pre .1 (omega arith))
 
-shared-slice-read-result : tie.Need-shared-slice-read-result
-shared-slice-read-result c = search needs
-
 returns-2 : tie.Need-returns-2
 returns-2 c = rw (lt-ltb 0 (c .before .before .args .left) (omega arith))
 
 pub entered-spec : {M : Type 1} → statement M
-entered-spec = tie.close (tie.spec returns sub-result shared-slice-read-result returns-2)
+entered-spec = tie.close (tie.spec returns sub-result (λ c. search needs) returns-2)

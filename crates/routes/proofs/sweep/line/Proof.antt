@@ -19,9 +19,6 @@ use Rattle.routes.proofs.sweep.line.Tie as tie
 row-is : (cells old new : List ℕ) (r r′ : Run) (b f f′ : ℕ) → r ≡ r′ → f ≡ f′ → Row cells old new r b f (r .steps + 1) → Row cells old new r′ b f′ (r′ .steps + 1)
 row-is cells old new r r′ b f f′ e h R = rw (← e, ← h) R
 
-row-requires : tie.Need-row-requires
-row-requires c κs = search needs
-
 row-from-requires : tie.Need-row-from-requires
 row-from-requires c κs =
     let s = c .before .before .before .before in
@@ -38,9 +35,6 @@ row-requires-2 c κs =
     = rw (r .whole) (row-on (a .s) (a .g) (a .b) (a .c) (r .held) (s .pre .2) (s .pre .3)) in
     rw (c .before .row .ensures) (o, omega (arith, r .whole, nodes-le (a .s) (r .sized)), s .pre .1, omega arith, omega arith, c .row-from .ensures .1)
 
-same-length : tie.Need-same-length
-same-length c = search needs
-
 returns : tie.Need-returns
 returns c =
     let row = c .before .before .row2 in
@@ -55,4 +49,4 @@ returns c =
     (run .ensures) (from .ensures .0) (row .ensures))
 
 pub line-spec : {M : Type 1} → statement M
-line-spec = tie.close (tie.spec row-requires row-from-requires row-requires-2 same-length returns)
+line-spec = tie.close (tie.spec (λ c κs. search needs) row-from-requires row-requires-2 (λ c. search needs) returns)

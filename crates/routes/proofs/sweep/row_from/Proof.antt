@@ -6,9 +6,6 @@ use borrow.Author.Tests.{eq-eqb, ne-eqb}
 use Rattle.routes.proofs.sweep.row_from.Statement.{statement}
 use Rattle.routes.proofs.sweep.row_from.Tie as tie
 
-add-if1 : tie.Need-add-if1
-add-if1 c = search needs
-
 returns : tie.Need-returns
 returns c = rw (eq-eqb _ _ (c .if1 .taken)) (refl, omega arith)
 
@@ -16,4 +13,4 @@ returns-2 : tie.Need-returns-2
 returns-2 c = rw (ne-eqb _ _ (c .if1 .left)) (refl, omega arith)
 
 pub row-from-spec : {M : Type 1} → statement M
-row-from-spec = tie.close (tie.spec add-if1 returns returns-2)
+row-from-spec = tie.close (tie.spec (λ c. search needs) returns returns-2)
