@@ -1,6 +1,6 @@
 //! Times each call of the library against plain Rust on the same input, in one run: the results are compared first, then short runs of the two
 //! take turns, and the table has the median of each, the ratio, and its spread. Words after the name choose calls by a part of their names;
-//! `--picture FILE` draws the ratios too.
+//! `--pictures FOLDER` draws the ratios, and how cost grows, as speed.svg and growth.svg.
 
 mod cases;
 mod inputs;
@@ -33,7 +33,7 @@ fn main() {
         std::process::exit(1);
     }
     let mut chosen: Vec<String> = std::env::args().skip(1).collect();
-    let picture = chosen.iter().position(|word| word == "--picture").map(|i| chosen.drain(i..(i + 2).min(chosen.len())).last().unwrap());
+    let folder = chosen.iter().position(|word| word == "--pictures").map(|i| chosen.drain(i..(i + 2).min(chosen.len())).last().unwrap());
     let wanted = |call: &str| dukthari::declares(call) && (chosen.is_empty() || chosen.iter().any(|part| call.contains(&part[..])));
     let mut rows = Vec::new();
     println!("| Call | Mesh | Input | Library, ns | Plain Rust, ns | Ratio | Half of the ratios in |");
@@ -48,7 +48,10 @@ fn main() {
     if ["dk_fresh", "dk_outstanding", "dk_hear"].iter().all(|call| wanted(call)) {
         cases::gossip();
     }
-    if let Some(file) = picture {
-        std::fs::write(&file, picture::of(&rows)).unwrap_or_else(|e| panic!("{file}: {e}"));
+    if let Some(folder) = folder {
+        for (name, text) in [("speed", picture::ratios(&rows)), ("growth", picture::growth(&rows))] {
+            let file = format!("{folder}/{name}.svg");
+            std::fs::write(&file, text).unwrap_or_else(|e| panic!("{file}: {e}"));
+        }
     }
 }

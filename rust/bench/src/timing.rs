@@ -20,11 +20,13 @@ pub struct Case<'a, B, C> {
     pub same: fn(&B, &C) -> bool,
 }
 
-/// What was seen of a case: nanoseconds for one call of each side, the ratio of the two, and between which ratios half of the pairs of runs lie.
+/// What was seen of a case: the library's nanoseconds for one call, their ratio to plain Rust's, and between which ratios half of the pairs of runs
+/// lie.
 pub struct Row {
     pub cube: Cube,
     pub call: &'static str,
     pub input: String,
+    pub library: f64,
     pub ratio: f64,
     pub spread: [f64; 2],
 }
@@ -71,7 +73,7 @@ impl<B, C> Case<'_, B, C> {
         }
         let (library, plain) = (at(0.5, runs.iter().map(|r| r.0)), at(0.5, runs.iter().map(|r| r.1)));
         let spread = [0.25, 0.75].map(|part| at(part, runs.iter().map(|r| r.0 / r.1)));
-        let row = Row { cube: self.cube, call: self.call, input: self.input.clone(), ratio: library / plain, spread };
+        let row = Row { cube: self.cube, call: self.call, input: self.input.clone(), library, ratio: library / plain, spread };
         let [low, high] = spread;
         println!(
             "| `{}` | {} | {} | {library:.0} | {plain:.0} | {:.2} | {low:.2} to {high:.2} |",
