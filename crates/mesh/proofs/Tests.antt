@@ -89,6 +89,10 @@ pub all-more : (n : ℕ) (p : ℕ → Bool) → all (n + 1) p ≡ p n && all n p
 unfolding all
 all-more n p = rw add-one
 
+pub any-more : (n : ℕ) (p : ℕ → Bool) → any (n + 1) p ≡ p n || any n p
+unfolding any
+any-more n p = rw add-one
+
 pub all-fails : (n : ℕ) (p : ℕ → Bool) (k : ℕ) → k < n → p k ≡ false → all n p ≡ false
 all-fails n p k l e = bool-ext (all n p) false (λ t. subst (λ (b : Bool). T b) e (T-all n p .0 t k l)) (λ t. absurd t)
 

@@ -77,4 +77,5 @@ returns-3 c =
 
 pub shift-spec : {M : Type 1} → statement M
 shift-spec =
-    tie.close (tie.spec (λ c. search needs) (λ c. search needs) (λ c. search needs) (λ c. search needs) (λ c. search needs) add-t returns cast-u returns-2 returns-3)
+    tie.close (tie.spec (λ c. search needs) (λ c. search needs) (λ c. search needs) (λ c. search needs)
+    (λ c. search needs) add-t returns cast-u returns-2 returns-3)

@@ -30,21 +30,6 @@ none p = refl
 loop-holds : tie.Need-loop-holds Inv-loop μ-loop
 loop-holds c = (omega arith, omega arith, none (isFaulty (now (c .before .args .cells))))
 
-shared-slice-read-faulty-cell : tie.Need-shared-slice-read-faulty-cell Inv-loop μ-loop
-shared-slice-read-faulty-cell c = omega arith
-
-faulty-cell-requires : tie.Need-faulty-cell-requires Inv-loop μ-loop
-faulty-cell-requires c κs = search needs
-
-add-n : tie.Need-add-n Inv-loop μ-loop
-add-n c = omega arith
-
-add-k : tie.Need-add-k Inv-loop μ-loop
-add-k c = omega arith
-
-loop-less : tie.Need-loop-less Inv-loop μ-loop
-loop-less c = omega arith
-
 loop-again : tie.Need-loop-again Inv-loop μ-loop
 loop-again c =
     let a = c .before .before .before .before .before .before .args in
@@ -63,15 +48,5 @@ returns c =
 
 pub count-faulty-spec : {M : Type 1} → statement M
 count-faulty-spec =
-    tie.close
-    (tie.spec
-    Inv-loop
-    μ-loop
-    loop-holds
-    shared-slice-read-faulty-cell
-    faulty-cell-requires
-    add-n
-    add-k
-    loop-less
-    loop-again
-    returns)
+    tie.close (tie.spec Inv-loop μ-loop loop-holds (λ c. omega arith) (λ c κs. search needs) (λ c. omega arith)
+    (λ c. omega arith) (λ c. omega arith) loop-again returns)

@@ -30,20 +30,8 @@ none p = refl
 loop-holds : tie.Need-loop-holds Inv-loop μ-loop
 loop-holds c = (omega arith, omega arith, none (marked (now (c .args .marks)) (c .args .mark)))
 
-shared-slice-read-if1 : tie.Need-shared-slice-read-if1 Inv-loop μ-loop
-shared-slice-read-if1 c = omega arith
-
 div-if1 : tie.Need-div-if1 Inv-loop μ-loop
 div-if1 c = c .before .before .before .pre
-
-add-n : tie.Need-add-n Inv-loop μ-loop
-add-n c = omega arith
-
-add-k : tie.Need-add-k Inv-loop μ-loop
-add-k c = omega arith
-
-loop-less : tie.Need-loop-less Inv-loop μ-loop
-loop-less c = omega arith
 
 loop-again : tie.Need-loop-again Inv-loop μ-loop
 loop-again c =
@@ -63,15 +51,5 @@ returns c =
 
 pub count-marked-spec : {M : Type 1} → statement M
 count-marked-spec =
-    tie.close
-    (tie.spec
-    Inv-loop
-    μ-loop
-    loop-holds
-    shared-slice-read-if1
-    div-if1
-    add-n
-    add-k
-    loop-less
-    loop-again
-    returns)
+    tie.close (tie.spec Inv-loop μ-loop loop-holds (λ c. omega arith) div-if1 (λ c. omega arith) (λ c. omega arith)
+    (λ c. omega arith) loop-again returns)
