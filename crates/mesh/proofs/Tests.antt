@@ -7,7 +7,7 @@ use lib.Dec.{T, eqb, eqb→eq, eqb-refl, leb, leb→le, le→leb, ltb, ltb→lt,
 use native.Mathlib.Omega.{arith}
 use native.Mathlib.Numerals.{add-one}
 use native.Mathlib.Nat.{eq-or-lt-of-le, le-of-suc-le-suc}
-use Rattle.mesh.specs.Tools.{bit, implies, all, any}
+use Rattle.mesh.specs.Tools.{implies, all, any}
 use Rattle.mesh.specs.Mesh.{Axis, X, Y, Z, every}
 
 pub T-and : (a b : Bool) → T (a && b) ↔ (T a × T b)

@@ -1,7 +1,6 @@
 -- `mesh::Place::step` meets its contract: the three answers together are `next`. Assumes nothing.
 use mathlib.Core.Path.{_≡_, _∙_}
 use Prim.Native.Nat.{ℕ, _<_}
-use native.Mathlib.Omega.{arith}
 use borrow.Author.Needs.{needs}
 use borrow.Author.Tests.{lt-ltb}
 use Rattle.mesh.specs.Steps.{stepOf, moved, together, next}

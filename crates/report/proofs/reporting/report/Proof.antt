@@ -5,14 +5,11 @@ use Prim.Native.Nat.{ℕ}
 use native.Mathlib.Omega.{arith}
 use borrow.Author.Needs.{needs}
 use denote.Ref.{now}
-use lib.ListN.{length, take}
 use Rattle.mesh.specs.Mesh.{nodes}
 use Rattle.mesh.specs.Cells.{mapOf}
-use Rattle.mesh.specs.Answers.{refusalNo, checkMap}
+use Rattle.mesh.specs.Answers.{refusalNo}
 use Rattle.mesh.specs.declared.Sizes.{Sizes}
 use Rattle.mesh.specs.declared.Refusal.{Refusal}
-use Rattle.mesh.specs.declared.Answer.the-variants.{Done}
-use Rattle.mesh.proofs.Answers.{map-granted}
 use Rattle.mapfile.specs.Format.{cellsIn}
 use Rattle.mapfile.specs.Entry.{readAnswer}
 use Rattle.mapfile.specs.declared.MapRead.{MapRead}
