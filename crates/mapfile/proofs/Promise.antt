@@ -8,7 +8,6 @@ use native.Mathlib.Omega.{arith}
 use lib.ListN.{length, getD, take, drop}
 use lib.Seq.{take-at}
 use Rattle.mesh.specs.Mesh.{nodes}
-use Rattle.mesh.specs.Answers.{numbered}
 use Rattle.mesh.specs.declared.Sizes.{Sizes}
 use Rattle.mesh.specs.declared.Refusal.{Refusal}
 use Rattle.mesh.specs.declared.Answer.{Answer}
@@ -16,6 +15,7 @@ use Rattle.mesh.specs.declared.Answer.the-variants.{Done, Refused}
 use Rattle.mesh.specs.declared.Numbered.{Numbered}
 use Rattle.mesh.specs.declared.Numbered.the-variants.{Number, NotNumbered}
 use Rattle.mesh.proofs.Answers.{kept}
+use Rattle.mesh.proofs.Granted.{number-stands, number-refused}
 use Rattle.mapfile.specs.Format.{distance, fileOf, MapFile, sizesIn}
 use Rattle.mapfile.specs.Entry.{mapRead, readCheck, readAnswer, readWritten, readOut, writeCheck, writeAnswer, writeWritten, writeOut}
 use Rattle.mapfile.specs.Promise.{ReadRefused, WriteRefused, Reads, Writes}
@@ -24,7 +24,7 @@ use Rattle.mapfile.specs.declared.MapRead.the-variants.{Read, NotRead}
 use Rattle.mapfile.proofs.Refusals.{not-read, not-written}
 use Rattle.mapfile.proofs.Reasons.{read-refused, read-decided, write-refused, write-decided}
 use Rattle.mapfile.proofs.Reading.{read-exactly, read-out}
-use Rattle.mapfile.proofs.Writing.{granted-number, file-size, written-file}
+use Rattle.mapfile.proofs.Writing.{file-size, written-file}
 
 -- ---- reading
 
@@ -64,10 +64,6 @@ one-reading file old (NotRead r) b new other p q =
 
 -- ---- writing
 
-refusal-of : (a : Answer) (m : ℕ) (r : Refusal) → numbered a m ≡ NotNumbered r → a ≡ Refused r
-refusal-of Done m r e = let z : _≡_ {A = ℕ} 0 1 = cc in absurd (omega arith)
-refusal-of (Refused q) m r e = cc
-
 module _ (S : Sizes) (cells old : List ℕ) where
   abbrev check : Answer
   check = writeCheck S cells (length old)
@@ -83,15 +79,15 @@ module _ (S : Sizes) (cells old : List ℕ) where
   writes =
       record {
         size = λ n e.
-            let (d, same) = granted-number check (distance S) n e in
+            let (d, same) = number-stands check (distance S) n e in
             sym (file-size S cells (written-file S cells (length old) d .count) ∙ same);
-        written = λ n e. let (d, same) = granted-number check (distance S) n e in rw (d, same);
-        a-file = λ n e. written-file S cells (length old) (granted-number check (distance S) n e .0);
+        written = λ n e. let (d, same) = number-stands check (distance S) n e in rw (d, same);
+        a-file = λ n e. written-file S cells (length old) (number-stands check (distance S) n e .0);
         refused = λ r. (
-          λ e. write-why r (refusal-of check (distance S) r e),
+          λ e. write-why r (number-refused check (distance S) r .0 e),
           λ why. not-written S cells (length old) r (write-refused S cells (length old) r why),
         );
-        kept = λ r e. kept check r (writeWritten S cells old) old (refusal-of check (distance S) r e);
+        kept = λ r e. kept check r (writeWritten S cells old) old (number-refused check (distance S) r .0 e);
       }
 
 never : (n : ℕ) (r : Refusal) → Number n ≡ NotNumbered r → ⊥

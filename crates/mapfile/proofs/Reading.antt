@@ -204,7 +204,3 @@ read-out file {S} {cells} f out h =
     ap (λ (a : Answer). granted a (cellsIn file ++ drop (nodes (sizesIn file)) out) out) (file-granted file f (length out) h)
     ∙ ap (λ (l : List ℕ). l ++ drop (nodes (sizesIn file)) out) (file-cells file f)
     ∙ ap (λ (Z : Sizes). cells ++ drop (nodes Z) out) (file-sizes file f)
-
--- a file is a file of one map
-pub one-map : (file : List ℕ) {S Z : Sizes} {c d : List ℕ} → MapFile S c file → MapFile Z d file → (S ≡ Z) × (c ≡ d)
-one-map file f g = (sym (file-sizes file f) ∙ file-sizes file g, sym (file-cells file f) ∙ file-cells file g)

@@ -13,7 +13,7 @@ use Rattle.mesh.specs.Tools.{any}
 use Rattle.mesh.specs.Mesh.{inRange, InRange, nodes, inside, Inside}
 use Rattle.mesh.specs.Cells.{badCell, firstBad}
 use Rattle.mesh.specs.Answers.{granted, _andThen_, unless}
-use Rattle.mesh.specs.Answers.{checkSizes, checkCells, checkMap, checkPlace, checkNode, checkOrientation, checkDirection, checkRoom}
+use Rattle.mesh.specs.Answers.{checkSizes, checkCells, checkMap, checkPlace, checkNode, checkOrientation, checkRoom}
 use Rattle.mesh.specs.declared.Sizes.{Sizes}
 use Rattle.mesh.specs.declared.Place.{Place}
 use Rattle.mesh.specs.declared.Refusal.{Refusal}
@@ -81,9 +81,6 @@ node-granted S k e = ltb-true k (nodes S) (ok-of (ltb k (nodes S)) BadNumber e)
 
 pub orientation-granted : (o : ℕ) → checkOrientation o ≡ Done → o ≤ 7
 orientation-granted o e = leb-true o 7 (ok-of (leb o 7) BadNumber e)
-
-pub direction-granted : (j : ℕ) → checkDirection j ≡ Done → j < 6
-direction-granted j e = let h = leb-true j 5 (ok-of (leb j 5) BadNumber e) in omega arith
 
 pub room-granted : (need room : ℕ) → checkRoom need room ≡ Done → need ≤ room
 room-granted need room e = leb-true need room (ok-of (leb need room) NoRoom e)

@@ -64,10 +64,6 @@ module _ (m : Map) (p : Place) (heard : ℕ → ℕ) (g : Heard m p heard) where
   says-rule o mark f = byte-same (m .sizes) o o (λ j. byteBlocks (heard j)) (λ j k. blocks m (mark j k) p j) λ k a c.
       heard-blocks mark f k (ahead (heading o k) a) (dir-lt a (runsDown (heading o k) a))
 
-  -- the byte rule is the rule of each mark, with the words heard in place of the neighbours
-  pub heard-rule : (o : ℕ) → ruleByte (m .sizes) o heard ≡ byteOf λ k. rule (m .sizes) (heading o k) λ j. blocks m (λ q. has (heard j) k) p j
-  heard-rule o = says-rule o (λ j k q. has (heard j) k) λ j q e n k. refl
-
   -- a working node that heard its neighbours' marks, all of them and no others, gets its own
   pub heard-marks : (o : ℕ) → Inside (m .sizes) p → T (works m p)
       → ((j : ℕ) (q : Place) → next (m .sizes) p j ≡ At q → T (not (wall m p j q)) → heard j ≡ byteOf (holds m o q))
@@ -104,18 +100,12 @@ module _ (m : Map) (o : ℕ) where
   open-works : (p : Place) (j : ℕ) (q : Place) → T (not (wall m p j q)) → T (works m q)
   open-works p j q n = T-no (faulty m q) .1 λ f. T-no (wall m p j q) .0 n (wall-faulty m p j q f)
 
-  ruled-by : (bytes : Place → ℕ) (p : Place) → Inside (m .sizes) p → T (works m p)
-      → ((j : ℕ) (q : Place) → T (not (wall m p j q)) → bytes q ≡ byteOf (holds m o q)) → ruleByte (m .sizes) o (readAt m bytes p) ≡ markAt m o p
-  ruled-by bytes p i w f =
-      let g : Heard m p (readAt m bytes p) = read-heard m bytes p λ j q e n. rw (f j q n) (byte-word (holds m o q)) in
-      heard-marks m p (readAt m bytes p) g o i w λ j q e n. read-word m bytes p j q e n ∙ f j q n
-
-  -- the byte rule gives a working node's mark byte, where it reads the words of the two marks and where it reads the mark bytes
-  pub words-ruled : (p : Place) → Inside (m .sizes) p → T (works m p) → ruleByte (m .sizes) o (readAt m (λ q. byteOf (holds m o q)) p) ≡ markAt m o p
-  words-ruled p i w = ruled-by (λ q. byteOf (holds m o q)) p i w λ j q n. refl
-
+  -- the byte rule, reading the mark bytes, gives a working node's
   pub marks-ruled : (p : Place) → Inside (m .sizes) p → T (works m p) → ruleByte (m .sizes) o (readAt m (markAt m o) p) ≡ markAt m o p
-  marks-ruled p i w = ruled-by (markAt m o) p i w λ j q n. mark-works m o q (open-works p j q n)
+  marks-ruled p i w =
+      let told : (j : ℕ) (q : Place) → T (not (wall m p j q)) → markAt m o q ≡ byteOf (holds m o q) = λ j q n. mark-works m o q (open-works p j q n) in
+      let g = read-heard m (markAt m o) p λ j q e n. rw (told j q n) (byte-word (holds m o q)) in
+      heard-marks m p (readAt m (markAt m o) p) g o i w λ j q e n. read-word m (markAt m o) p j q e n ∙ told j q n
 
   -- bytes that follow the byte rule at every working node are the mark bytes
   pub bytes-unique : (bytes : Place → ℕ) → ((q : Place) → Inside (m .sizes) q → T (works m q) → bytes q ≡ ruleByte (m .sizes) o (readAt m bytes q))

@@ -40,20 +40,28 @@ fill-safe f v old new n F k x right e = elim (tried (any n λ i. eqb k (f i))) [
 ]
 
 -- "Longer outputs keep their remaining places": l at the front, and after it what was there
+module _ (l old : List ℕ) (n : ℕ) (e : length l ≡ n) where
+  pub front-at : (k : ℕ) → k < n → getD (l ++ drop n old) k 0 ≡ getD l k 0
+  front-at k h = List·getD-append l (drop n old) 0 k (omega arith)
+
+  pub front-kept : (k : ℕ) → n ≤ k → getD (l ++ drop n old) k 0 ≡ getD old k 0
+  front-kept k h =
+      let q : k ≡ length l + (k - n) = omega arith in
+      let r : n + (k - n) ≡ k = omega arith in
+      ap (λ (j : ℕ). getD (l ++ drop n old) j 0) q
+      ∙ getD-append-add l (drop n old) (k - n) 0
+      ∙ getD-drop n old (k - n) 0
+      ∙ ap (λ (j : ℕ). getD old j 0) r
+
+  pub front-size : n ≤ length old → length (l ++ drop n old) ≡ length old
+  front-size room = omega (arith, length-append l (drop n old), length-drop n old)
+
+-- and nothing else is so
 pub front : (l old new : List ℕ) (n : ℕ) → length l ≡ n → n ≤ length old → length new ≡ length old
     → ((k : ℕ) → k < n → getD new k 0 ≡ getD l k 0) → ((k : ℕ) → n ≤ k → getD new k 0 ≡ getD old k 0) → new ≡ l ++ drop n old
-front l old new n e room size written kept = ext-getD 0 new (l ++ drop n old)
-    (omega (arith, length-append l (drop n old), length-drop n old))
-    (λ k h. split k (ltb k n) refl)
+front l old new n e room size written kept =
+    ext-getD 0 new (l ++ drop n old) (size ∙ sym (front-size l old n e room)) (λ k h. split k (ltb k n) refl)
   where
     split : (k : ℕ) (t : Bool) → ltb k n ≡ t → getD new k 0 ≡ getD (l ++ drop n old) k 0
-    split k true h = let i = ltb-true k n h in written k i ∙ (rw (List·getD-append l (drop n old) 0 k (omega arith)))
-    split k false h =
-        let i = ltb-false k n h in
-        let q : length l + (k - n) ≡ k = omega arith in
-        let r : n + (k - n) ≡ k = omega arith in
-        kept k i
-        ∙ sym (ap (λ (j : ℕ). getD old j 0) r)
-        ∙ sym (getD-drop n old (k - n) 0)
-        ∙ sym (getD-append-add l (drop n old) (k - n) 0)
-        ∙ ap (λ (j : ℕ). getD (l ++ drop n old) j 0) q
+    split k true h = let i = ltb-true k n h in written k i ∙ sym (front-at l old n e k i)
+    split k false h = let i = ltb-false k n h in kept k i ∙ sym (front-kept l old n e k i)

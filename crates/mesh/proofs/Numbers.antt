@@ -1,5 +1,5 @@
 -- Numbers and places undo each other: digits x + w × r with x below w. Assumes nothing.
-use mathlib.Core.Path.{_≡_, refl, sym, ap, _∙_, subst}
+use mathlib.Core.Path.{_≡_, sym, ap, _∙_}
 use Prim.Native.Nat.{ℕ, zero, suc, _+_, _*_, _/_, _%_, _<_, _≤_}
 use native.Mathlib.Nat.{mul-le-mul, mul-add, mul-one, mul-comm, mul-le-mul-left, add-mul-mod-self-left, add-mul-div-left, mod-eq-of-lt, div-eq-of-lt, mod-lt, mod-add-div, div-lt-iff-lt-mul, zero-add}
 use native.Mathlib.Omega.{arith}

@@ -1,9 +1,8 @@
 -- A step moves one coordinate by one: the table of steps read axis by axis. Opposite directions cancel. Assumes nothing.
-use mathlib.Core.Path.{_≡_, refl, sym, ap, _∙_, subst}
-use mathlib.Core.Logic.{_↔_, _⊎_, inl, inr}
+use mathlib.Core.Path.{_≡_, refl, sym, ap, _∙_}
 use mathlib.Core.Bool.{Bool, true, false, cond, not}
-use mathlib.Core.List.{List, [], _∷_}
-use Prim.Native.Nat.{ℕ, zero, suc, _+_, _-_, _*_, _%_, _<_, _≤_}
+use mathlib.Core.List.{List, []}
+use Prim.Native.Nat.{ℕ, zero, suc, _+_, _-_, _<_, _≤_}
 use native.Mathlib.Nat.{add-zero}
 use native.Mathlib.Omega.{arith}
 use lib.ListN.{getD, replicate, getD-replicate}
@@ -19,7 +18,6 @@ use Rattle.mesh.specs.declared.Sizes.{Sizes}
 use Rattle.mesh.specs.declared.Place.{Place}
 use Rattle.mesh.specs.declared.Next.{Next}
 use Rattle.mesh.specs.declared.Next.the-variants.{At, Edge}
-use Rattle.mesh.specs.declared.Moved.{Moved}
 use Rattle.mesh.specs.declared.Moved.the-variants.{To, Off}
 
 -- ---- the table: opposite directions cancel, computed once over all of it
@@ -193,3 +191,51 @@ module _ (S : Sizes) (p q : Place) (i : Inside S p) where
   returns j e =
       let (a, down, k) = dir-of j (dir-led S p q j e) in
       rw (k, opposite-along a down) (returns-along a down (rw k at e))
+
+-- ---- two directions do not lead to one neighbour
+
+moves : (down : Bool) (c n : ℕ) → T (room down c n) → go down c ≡ c → ⊥
+moves true c n t e = let h = ltb→lt 0 c t in omega arith
+moves false c n t e = omega arith
+
+same-way : (a b : Bool) (c n : ℕ) → T (room a c n) → T (room b c n) → go a c ≡ go b c → a ≡ b
+same-way true true c n t u e = refl
+same-way false false c n t u e = refl
+same-way true false c n t u e = absurd (omega arith)
+same-way false true c n t u e = absurd (omega arith)
+
+-- two moves of one place that agree are on one axis, if the first moves at all; and they agree on it
+same-axis : (a b : Axis) (p : Place) (c d : ℕ) → (c ≡ on p a → ⊥) → put a p c ≡ put b p d → a ≡ b
+same-axis X X p c d n e = refl
+same-axis X Y p c d n e = absurd (n (ap (λ (q : Place). q .x) e))
+same-axis X Z p c d n e = absurd (n (ap (λ (q : Place). q .x) e))
+same-axis Y X p c d n e = absurd (n (ap (λ (q : Place). q .y) e))
+same-axis Y Y p c d n e = refl
+same-axis Y Z p c d n e = absurd (n (ap (λ (q : Place). q .y) e))
+same-axis Z X p c d n e = absurd (n (ap (λ (q : Place). q .z) e))
+same-axis Z Y p c d n e = absurd (n (ap (λ (q : Place). q .z) e))
+same-axis Z Z p c d n e = refl
+
+on-put : (a : Axis) (p : Place) (c : ℕ) → on (put a p c) a ≡ c
+on-put X p c = refl
+on-put Y p c = refl
+on-put Z p c = refl
+
+same-along : (S : Sizes) (p r : Place) → Inside S p → (a b : Axis) (c d : Bool) → a ≡ b → next S p (along a c) ≡ At r → next S p (along b d) ≡ At r
+    → along a c ≡ along b d
+same-along S p r i a b c d f h k =
+    let (t, q) = led S p i a c r h in
+    let (u, w) = led S p i a d r (rw (← f) at k) in
+    let e : go c (on p a) ≡ go d (on p a) = sym (on-put a p (go c (on p a))) ∙ ap (λ (q : Place). on q a) (sym q ∙ w) ∙ on-put a p (go d (on p a)) in
+    rw (f, same-way c d (on p a) (span S a) t u e)
+
+pub next-only : (S : Sizes) (p r : Place) → Inside S p → (j k : ℕ) → next S p j ≡ At r → next S p k ≡ At r → j ≡ k
+next-only S p r i j k h g =
+    let (a, c, f) = dir-of j (dir-led S p r j h) in
+    let (b, d, f′) = dir-of k (dir-led S p r k g) in
+    let h′ : next S p (along a c) ≡ At r = rw (← f) h in
+    let g′ : next S p (along b d) ≡ At r = rw (← f′) g in
+    let (t, q) = led S p i a c r h′ in
+    let (u, w) = led S p i b d r g′ in
+    let z = same-axis a b p (go c (on p a)) (go d (on p b)) (moves c (on p a) (span S a) t) (sym q ∙ w) in
+    f ∙ same-along S p r i a b c d z h′ g′ ∙ sym f′

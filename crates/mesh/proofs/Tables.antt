@@ -1,8 +1,7 @@
 -- Tables, sums and counts over 0 .. n - 1. Assumes nothing.
 use mathlib.Core.Path.{_≡_, refl, ap}
-use mathlib.Core.Logic.{_⊎_, inl, inr}
+use mathlib.Core.Logic.{inl, inr}
 use mathlib.Core.Bool.{Bool, true, false}
-use mathlib.Core.List.{List, []}
 use Prim.Native.Nat.{ℕ, zero, suc, _+_, _≤_, _<_}
 use native.Mathlib.Omega.{arith}
 use native.Mathlib.Numerals.{add-one}
@@ -27,10 +26,19 @@ unfolding sum
 sum-same zero f g e = refl
 sum-same (suc n) f g e = omega (arith, e n (omega arith), sum-same n f g (λ k l. e k (omega arith)))
 
--- one more, as a loop counts
+-- none, one more, as a loop counts, and the first apart
+pub sum-none : (f : ℕ → ℕ) → sum 0 f ≡ 0
+unfolding sum
+sum-none f = refl
+
 pub sum-more : (n : ℕ) (f : ℕ → ℕ) → sum (n + 1) f ≡ f n + sum n f
 unfolding sum
 sum-more n f = rw add-one
+
+pub sum-first : (n : ℕ) (f : ℕ → ℕ) → sum (suc n) f ≡ f 0 + sum n λ k. f (suc k)
+unfolding sum
+sum-first zero f = refl
+sum-first (suc n) f = omega (arith, sum-first n f)
 
 pub sum-mono : (n : ℕ) (f g : ℕ → ℕ) → ((k : ℕ) → k < n → f k ≤ g k) → sum n f ≤ sum n g
 unfolding sum

@@ -7,7 +7,7 @@ use lib.Dec.{T, eqb, eqb→eq, eqb-refl, leb, leb→le, le→leb, ltb, ltb→lt,
 use native.Mathlib.Omega.{arith}
 use native.Mathlib.Numerals.{add-one}
 use native.Mathlib.Nat.{eq-or-lt-of-le, le-of-suc-le-suc}
-use Rattle.mesh.specs.Tools.{bit, implies, all, any}
+use Rattle.mesh.specs.Tools.{implies, all, any}
 use Rattle.mesh.specs.Mesh.{Axis, X, Y, Z, every}
 
 pub T-and : (a b : Bool) → T (a && b) ↔ (T a × T b)
@@ -88,6 +88,10 @@ bool-ext false false f g = refl
 pub all-more : (n : ℕ) (p : ℕ → Bool) → all (n + 1) p ≡ p n && all n p
 unfolding all
 all-more n p = rw add-one
+
+pub any-more : (n : ℕ) (p : ℕ → Bool) → any (n + 1) p ≡ p n || any n p
+unfolding any
+any-more n p = rw add-one
 
 pub all-fails : (n : ℕ) (p : ℕ → Bool) (k : ℕ) → k < n → p k ≡ false → all n p ≡ false
 all-fails n p k l e = bool-ext (all n p) false (λ t. subst (λ (b : Bool). T b) e (T-all n p .0 t k l)) (λ t. absurd t)

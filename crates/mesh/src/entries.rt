@@ -41,10 +41,7 @@ pub fn step_from(s: Sizes, p: Place, direction: usize) -> Stepped
     if !s.in_range() {
         return Stepped::NotStepped(Refusal::BadSizes);
     }
-    if !s.has(p) {
-        return Stepped::NotStepped(Refusal::BadNumber);
-    }
-    if direction > 5 {
+    if !s.has(p) | (direction > 5) {
         return Stepped::NotStepped(Refusal::BadNumber);
     }
     Stepped::Led(p.step(direction, s))

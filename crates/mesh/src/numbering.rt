@@ -3,22 +3,17 @@ use crate::Place;
 use crate::Sizes;
 ghost use mathlib.Core.Path.{_≡_};
 ghost use Prim.Native.Nat.{_≤_, _<_};
-ghost use Rattle.mesh.specs.Tools.{between};
 ghost use Rattle.mesh.specs.Mesh.{inRange, InRange, nodes, inside, Inside, number, placeOf};
-
-// Is n at least lo and at most hi?
-fn between(lo: usize, hi: usize, n: usize) -> bool
-    ensures { λ r. ⌜ r ≡ between lo hi n ⌝ }
-{
-    lo <= n && n <= hi
-}
 
 impl Sizes {
     // W and H are 2 to 16, D is 1 to 16.
     pub fn in_range(self) -> bool
         ensures { λ r. ⌜ r ≡ inRange self ⌝ }
     {
-        between(2, 16, self.w) && between(2, 16, self.h) && between(1, 16, self.d)
+        let width = (2 <= self.w) & (self.w <= 16);
+        let height = (2 <= self.h) & (self.h <= 16);
+        let depth = (1 <= self.d) & (self.d <= 16);
+        width & height & depth
     }
 
     // How many nodes there are.
@@ -33,7 +28,7 @@ impl Sizes {
     pub fn has(self, p: Place) -> bool
         ensures { λ r. ⌜ r ≡ inside self p ⌝ }
     {
-        p.x < self.w && p.y < self.h && p.z < self.d
+        (p.x < self.w) & (p.y < self.h) & (p.z < self.d)
     }
 
     // The number of a place.

@@ -5,11 +5,8 @@ use crate::Place;
 use crate::Sizes;
 ghost use mathlib.Core.Path.{_≡_};
 ghost use Prim.Native.Nat.{_<_};
-ghost use mathlib.Core.List.{[]};
-ghost use lib.ListN.{getD};
-ghost use lib.Signed.{mag};
 ghost use Rattle.mesh.specs.Mesh.{InRange, Inside};
-ghost use Rattle.mesh.specs.Steps.{steps, moved, next};
+ghost use Rattle.mesh.specs.Steps.{stepOf, moved, together, next};
 
 // +X, -X, +Y, -Y, +Z, -Z.
 pub const STEPS: [[i32; 3]; 6] = [
@@ -21,25 +18,33 @@ pub const STEPS: [[i32; 3]; 6] = [
     [0, 0, -1],
 ];
 
-// The unit step in a direction.
-fn unit_step(direction: usize) -> [i32; 3]
-    requires { ⌜ direction < 6 ⌝ }
-    ensures { λ r. ⌜ r ≡ getD steps direction [] ⌝ }
+// The coordinate c, moved along an axis of n by a direction's step, or off the axis.
+fn shift(c: usize, direction: usize, axis: usize, n: usize) -> Moved
+    requires { ⌜ (c < 16) × (direction < 6) × (axis < 3) ⌝ }
+    ensures { λ r. ⌜ r ≡ moved c (stepOf direction axis) n ⌝ }
 {
-    STEPS[direction]
-}
-
-// The coordinate c moved by s on an axis of n, or off the axis.
-fn shift(c: usize, s: i32, n: usize) -> Moved
-    requires { ⌜ (c < 16) × (mag s < 16) ⌝ }
-    ensures { λ r. ⌜ r ≡ moved c s n ⌝ }
-{
-    let t = c as i32 + s;
+    let t = c as i32 + STEPS[direction][axis];
     if t < 0 {
         return Moved::Off;
     }
     let u = t as usize;
     if u < n { Moved::To(u) } else { Moved::Off }
+}
+
+// The three axes together.
+fn together(x: Moved, y: Moved, z: Moved) -> Next
+    ensures { λ r. ⌜ r ≡ together x y z ⌝ }
+{
+    let Moved::To(x) = x else {
+        return Next::Edge;
+    };
+    let Moved::To(y) = y else {
+        return Next::Edge;
+    };
+    let Moved::To(z) = z else {
+        return Next::Edge;
+    };
+    Next::At(Place { x, y, z })
 }
 
 impl Place {
@@ -48,16 +53,9 @@ impl Place {
         requires { ⌜ (direction < 6) × InRange s × Inside s self ⌝ }
         ensures { λ r. ⌜ r ≡ next s self direction ⌝ }
     {
-        let step = unit_step(direction);
-        let Moved::To(x) = shift(self.x, step[0], s.w) else {
-            return Next::Edge;
-        };
-        let Moved::To(y) = shift(self.y, step[1], s.h) else {
-            return Next::Edge;
-        };
-        let Moved::To(z) = shift(self.z, step[2], s.d) else {
-            return Next::Edge;
-        };
-        Next::At(Place { x, y, z })
+        let x = shift(self.x, direction, 0, s.w);
+        let y = shift(self.y, direction, 1, s.h);
+        let z = shift(self.z, direction, 2, s.d);
+        together(x, y, z)
     }
 }

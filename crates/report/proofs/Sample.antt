@@ -13,9 +13,9 @@ use Rattle.components.specs.Touch.{unsafeNodes, touch, grown, component}
 use Rattle.components.specs.Components.{lowest, lowestNodes, howMany}
 use Rattle.mapfile.specs.Format.{trailer, fileOf, hasMark, cellsIn}
 use Rattle.mapfile.specs.Entry.{checkFrame, checkTrailer, readCheck, readAnswer}
-use Rattle.text.specs.Text.{ascii, decimalWithin}
+use Rattle.text.specs.Text.{ascii, decimalWithin, told}
 use Rattle.report.specs.Counts.{faultyCount, markedCount}
-use Rattle.report.specs.Report.{fourOnLine, orientations, octantLines, refusalLine, report}
+use Rattle.report.specs.Report.{orientations, octantLines, report}
 
 -- "Map P is 5 × 5 × 1 with (2,1) and (1,2) faulty"; "P's file of 37 bytes"
 abbrev cellsP : List ℕ
@@ -33,9 +33,9 @@ pub report-of-P : report fileP
 unfolding all sum table inRange next faultyCell badCell wall firstBad rule marked stuckWithin stuck byteOf markAt marksOf
     anyOf keep least unsafeNodes touch grown component lowest lowestNodes howMany
     trailer hasMark cellsIn checkFrame checkTrailer readCheck readAnswer decimalWithin
-    faultyCount markedCount fourOnLine orientations octantLines refusalLine report
+    told faultyCount markedCount orientations octantLines report
 report-of-P = refl
 
 pub report-of-nothing : report [] ≡ ascii "refused 11\n"
-unfolding hasMark checkFrame checkTrailer readCheck readAnswer decimalWithin refusalLine report
+unfolding hasMark checkFrame checkTrailer readCheck readAnswer decimalWithin told report
 report-of-nothing = refl

@@ -1,6 +1,6 @@
 -- 01, the program `meshreport`: the text that it prints for the bytes that it is given. Assumes nothing.
 use mathlib.Core.Bool.{cond}
-use mathlib.Core.List.{List, [], _++_}
+use mathlib.Core.List.{List, [], _∷_, _++_}
 use Prim.Native.Nat.{ℕ, zero, suc}
 use lib.Dec.{eqb}
 use Rattle.mesh.specs.Cells.{Map, mapOf}
@@ -10,23 +10,18 @@ use Rattle.mapfile.specs.Format.{cellsIn}
 use Rattle.mapfile.specs.Entry.{readAnswer}
 use Rattle.mapfile.specs.declared.MapRead.{MapRead}
 use Rattle.mapfile.specs.declared.MapRead.the-variants.{Read, NotRead}
-use Rattle.text.specs.Text.{ascii, decimal}
+use Rattle.text.specs.Text.{ascii, told}
 use Rattle.report.specs.Counts.{faultyCount, figuresOf}
 use Rattle.report.specs.declared.Figures.{Figures}
 
--- four words on a line, each with its number
-unfoldable pub fourOnLine : List ℕ → ℕ → List ℕ → ℕ → List ℕ → ℕ → List ℕ → ℕ → List ℕ
-fourOnLine a i b j c k d l = (a ++ decimal i) ++ (b ++ decimal j) ++ (c ++ decimal k) ++ (d ++ decimal l) ++ ascii "\n"
-
 -- "First line: sizes and count of faulty nodes."
 abbrev pub firstLine : Sizes → ℕ → List ℕ
-firstLine S faulty = fourOnLine (ascii "mesh ") (S .w) (ascii " ") (S .h) (ascii " ") (S .d) (ascii " faulty ") faulty
+firstLine S faulty = told (ascii "mesh % % % faulty %\n") (S .w ∷ S .h ∷ S .d ∷ faulty ∷ [])
 
 -- "one line for each orientation .. : working nodes with the useless mark, with the can't-reach mark, number of components"
 abbrev pub octantLine : ℕ → Figures → List ℕ
 octantLine o f =
-    fourOnLine (ascii "octant ") o (ascii " useless ") (f .useless) (ascii " cannot-reach ") (f .«cannot_reach»)
-    (ascii " components ") (f .components)
+    told (ascii "octant % useless % cannot-reach % components %\n") (o ∷ f .useless ∷ f .«cannot_reach» ∷ f .components ∷ [])
 
 -- "(0 to 3 if flat, else 0 to 7)": how many orientations have a line
 unfoldable pub orientations : Sizes → ℕ
@@ -40,8 +35,8 @@ abbrev pub mapReport : Map → List ℕ
 mapReport m = firstLine (m .sizes) (faultyCount m) ++ octantLines m (orientations (m .sizes))
 
 -- "A refusal prints `refused` and its number, alone."
-unfoldable pub refusalLine : ℕ → List ℕ
-refusalLine n = (ascii "refused " ++ decimal n) ++ ascii "\n"
+abbrev pub refusalLine : ℕ → List ℕ
+refusalLine n = told (ascii "refused %\n") (n ∷ [])
 
 abbrev pub reportOn : MapRead → List ℕ → List ℕ
 reportOn (Read S) cells = mapReport (mapOf S cells)

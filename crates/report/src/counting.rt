@@ -1,5 +1,5 @@
 // Counting nodes.
-use mesh::cells::faulty_cell;
+use mesh::cells::faulty_bit;
 ghost use mathlib.Core.Path.{_≡_};
 ghost use Prim.Native.Nat.{_<_};
 ghost use Rattle.report.specs.Counts.{faultyAmong, withBit};
@@ -10,9 +10,7 @@ pub fn count_faulty(cells: &[u8]) -> usize
 {
     let mut n = 0;
     for k in 0..cells.len() {
-        if faulty_cell(cells[k]) {
-            n += 1;
-        }
+        n += faulty_bit(cells[k]) as usize;
     }
     n
 }
@@ -24,9 +22,7 @@ pub fn count_marked(marks: &[u8], mark: u8) -> usize
 {
     let mut n = 0;
     for k in 0..marks.len() {
-        if marks[k] / mark % 2 == 1 {
-            n += 1;
-        }
+        n += (marks[k] / mark % 2) as usize;
     }
     n
 }

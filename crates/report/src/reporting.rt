@@ -1,6 +1,5 @@
 // The report on a file, as text.
 use crate::counting::count_faulty;
-use crate::figuring::blank_cells;
 use crate::figuring::figures;
 use crate::lines::first_line;
 use crate::lines::octant_line;
@@ -51,7 +50,7 @@ pub fn report(file: &[u8], out: &mut [u8]) -> usize
     requires { ⌜ 2048 ≤ length (now out) ⌝ }
     ensures { λ r. ⌜ Said (now (out .entry)) 0 (report (now (file .entry))) (now (out .exit)) r × (r ≤ 2048) ⌝ }
 {
-    let mut cells = blank_cells();
+    let mut cells = io::buffer();
     match read_map(file, &mut cells) {
         MapRead::Read(s) => {
             let n = s.nodes();

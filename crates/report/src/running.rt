@@ -1,26 +1,36 @@
 // The little that is not proved: which bytes are read, and that those of the report are printed.
 use crate::reporting::report;
-ghost use mathlib.Core.Path.{_≡_};
+use libc::STDOUT_FILENO;
+use mapfile::reader::blank_file;
+ghost use Prim.Native.Nat.{_≤_};
 ghost use lib.ListN.{length};
 
-// Room for the longest file, and for one byte more, by which a longer one is told.
-fn blank_file() -> [u8; 65537]
-    ensures { λ r. ⌜ 65537 ≡ length r ⌝ }
-{
-    [0; 65537]
+// Opens the file that argument i names, and prints its name. The descriptor is below 0 where it cannot be opened.
+pub fn open_named(i: usize) -> i32 {
+    let mut path = io::buffer();
+    let n = os::arg(i, &mut path);
+    let fd = os::open_read(&path[..n]);
+    if fd < 0 {
+        os::fail(&path[..n]);
+        return fd;
+    }
+    io::write_all(STDOUT_FILENO, &path[..n]);
+    io::write_all(STDOUT_FILENO, b"\n");
+    fd
 }
 
-fn blank_text() -> [u8; 2048]
-    ensures { λ r. ⌜ 2048 ≡ length r ⌝ }
+// Prints the first n bytes.
+pub fn print_front(text: &[u8], n: usize)
+    requires { ⌜ n ≤ length (now text) ⌝ }
 {
-    [0; 2048]
+    io::write_all(STDOUT_FILENO, &text[..n]);
 }
 
 // Reads a map file from a descriptor, and prints the report on it.
 pub fn run(fd: i32) {
     let mut file = blank_file();
     let n = io::read_full(fd, &mut file);
-    let mut text = blank_text();
+    let mut text = io::large_buffer();
     let k = report(&file[..n], &mut text);
-    io::write_all(libc::STDOUT_FILENO, &text[..k]);
+    print_front(&text, k);
 }

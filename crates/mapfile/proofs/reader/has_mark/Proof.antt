@@ -36,26 +36,11 @@ missed file k h n =
 loop-holds : tie.Need-loop-holds Inv-loop μ-loop
 loop-holds c = (omega arith, λ k h. absurd (omega arith))
 
-add-trailer-at : tie.Need-add-trailer-at Inv-loop μ-loop
-add-trailer-at c = omega arith
-
-trailer-at-requires : tie.Need-trailer-at-requires Inv-loop μ-loop
-trailer-at-requires c κs = omega arith
-
-array-read-if1 : tie.Need-array-read-if1 Inv-loop μ-loop
-array-read-if1 c = omega arith
-
 returns : tie.Need-returns Inv-loop μ-loop
 returns c =
     let t = c .before .before .before in
     let file = now (t .before .before .args .file) in
     sym (missed file (t .loop .i) (omega arith) λ e. c .if1 .taken (c .before .trailer-at .ensures ∙ e))
-
-add-i : tie.Need-add-i Inv-loop μ-loop
-add-i c = omega arith
-
-loop-less : tie.Need-loop-less Inv-loop μ-loop
-loop-less c = omega arith
 
 loop-again : tie.Need-loop-again Inv-loop μ-loop
 loop-again c =
@@ -72,16 +57,5 @@ returns-2 c =
 
 pub has-mark-spec : {M : Type 1} → statement M
 has-mark-spec =
-    tie.close
-    (tie.spec
-    Inv-loop
-    μ-loop
-    loop-holds
-    add-trailer-at
-    trailer-at-requires
-    array-read-if1
-    returns
-    add-i
-    loop-less
-    loop-again
-    returns-2)
+    tie.close (tie.spec Inv-loop μ-loop loop-holds (λ c. omega arith) (λ c κs. omega arith) (λ c. omega arith) returns
+    (λ c. omega arith) (λ c. omega arith) loop-again returns-2)

@@ -1,14 +1,13 @@
 -- `mesh::cells::any_bad` meets its contract: one cell more is looked at each turn. Assumes nothing.
-use mathlib.Core.Path.{_≡_, refl, sym, ap, _∙_, subst}
-use mathlib.Core.Bool.{Bool, _||_}
-use Prim.Native.Nat.{ℕ, _+_, _-_, _≤_}
-use native.Mathlib.Numerals.{add-one}
+use mathlib.Core.Path.{_≡_, refl, ap, _∙_}
+use Prim.Native.Nat.{ℕ, _-_, _≤_}
 use native.Mathlib.Omega.{arith}
 use borrow.Author.Needs.{needs}
 use denote.Ref.{now}
 use lib.ListN.{length, getD}
 use Rattle.mesh.specs.Tools.{any}
 use Rattle.mesh.specs.Cells.{badCell}
+use Rattle.mesh.proofs.Tests.{any-more}
 use Rattle.mesh.proofs.Answers.{any-first}
 use Rattle.mesh.proofs.cells.any_bad.Statement.{statement}
 use Rattle.mesh.proofs.cells.any_bad.Tie as tie
@@ -19,25 +18,9 @@ Inv-loop s cells n bad₀ k₀ bad k = (k ≤ n) × (bad ≡ any k (λ j. badCel
 abbrev μ-loop : tie.MeasureT-loop
 μ-loop s cells n bad₀ k₀ bad k = n - k
 
-any-more : (n : ℕ) (p : ℕ → Bool) → any (n + 1) p ≡ (p n || any n p)
-unfolding any
-any-more n p = rw (add-one n)
-
 loop-holds : tie.Need-loop-holds Inv-loop μ-loop
 unfolding any
 loop-holds c = (omega arith, refl)
-
-shared-slice-read-bad-cell : tie.Need-shared-slice-read-bad-cell Inv-loop μ-loop
-shared-slice-read-bad-cell c = omega arith
-
-bad-cell-requires : tie.Need-bad-cell-requires Inv-loop μ-loop
-bad-cell-requires c κs = search needs
-
-add-k : tie.Need-add-k Inv-loop μ-loop
-add-k c = omega arith
-
-loop-less : tie.Need-loop-less Inv-loop μ-loop
-loop-less c = omega arith
 
 loop-again : tie.Need-loop-again Inv-loop μ-loop
 loop-again c =
@@ -54,4 +37,5 @@ returns c =
 
 pub any-bad-spec : {M : Type 1} → statement M
 any-bad-spec =
-    tie.close (tie.spec Inv-loop μ-loop loop-holds shared-slice-read-bad-cell bad-cell-requires add-k loop-less loop-again returns)
+    tie.close (tie.spec Inv-loop μ-loop loop-holds (λ c. omega arith) (λ c κs. search needs) (λ c. omega arith)
+    (λ c. omega arith) loop-again returns)

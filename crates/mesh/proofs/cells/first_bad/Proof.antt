@@ -60,17 +60,8 @@ shared-slice-read-bad-cell :
     tie.Need-shared-slice-read-bad-cell Inv-loop2 μ-loop2 Inv-loop μ-loop Inv-scan μ-scan
 shared-slice-read-bad-cell c = in-map (c .before)
 
-bad-cell-requires : tie.Need-bad-cell-requires Inv-loop2 μ-loop2 Inv-loop μ-loop Inv-scan μ-scan
-bad-cell-requires c κs = search needs
-
 add-k : tie.Need-add-k Inv-loop2 μ-loop2 Inv-loop μ-loop Inv-scan μ-scan
 add-k c = omega (arith, in-map (c .before .before .before))
-
-add-x : tie.Need-add-x Inv-loop2 μ-loop2 Inv-loop μ-loop Inv-scan μ-scan
-add-x c = omega arith
-
-loop2-less : tie.Need-loop2-less Inv-loop2 μ-loop2 Inv-loop μ-loop Inv-scan μ-scan
-loop2-less c = omega arith
 
 loop2-again : tie.Need-loop2-again Inv-loop2 μ-loop2 Inv-loop μ-loop Inv-scan μ-scan
 loop2-again c =
@@ -78,12 +69,6 @@ loop2-again c =
     let a = c .before .before .before .before .before .before .before .before .before .before .args in
     let here = sym (c .before .bad-cell .ensures) ∙ c .if1 .left in
     (omega arith, omega arith, below-more (λ j. badCell (a .s) j (getD (now (a .cells)) j 0) ≡ false) (l .k) (l .inv .2) here)
-
-add-y : tie.Need-add-y Inv-loop2 μ-loop2 Inv-loop μ-loop Inv-scan μ-scan
-add-y c = omega arith
-
-loop-less : tie.Need-loop-less Inv-loop2 μ-loop2 Inv-loop μ-loop Inv-scan μ-scan
-loop-less c = omega arith
 
 loop-again : tie.Need-loop-again Inv-loop2 μ-loop2 Inv-loop μ-loop Inv-scan μ-scan
 loop-again c =
@@ -93,12 +78,6 @@ loop-again c =
     let z = c .before .before .before .before .before .scan .z in
     let e : l .x ≡ s .w = omega arith in
     (omega arith, l .inv .1 ∙ ap (λ (j : ℕ). j + s .w * (y + s .h * z)) e ∙ row-end (s .w) (s .h) y z, l .inv .2)
-
-add-z : tie.Need-add-z Inv-loop2 μ-loop2 Inv-loop μ-loop Inv-scan μ-scan
-add-z c = omega arith
-
-scan-less : tie.Need-scan-less Inv-loop2 μ-loop2 Inv-loop μ-loop Inv-scan μ-scan
-scan-less c = omega arith
 
 scan-again : tie.Need-scan-again Inv-loop2 μ-loop2 Inv-loop μ-loop Inv-scan μ-scan
 scan-again c =
@@ -126,28 +105,6 @@ returns-2 c =
 
 pub first-bad-spec : {M : Type 1} → statement M
 first-bad-spec =
-    tie.close
-    (tie.spec
-    Inv-loop2
-    μ-loop2
-    Inv-loop
-    μ-loop
-    Inv-scan
-    μ-scan
-    scan-holds
-    loop-holds
-    loop2-holds
-    shared-slice-read-bad-cell
-    bad-cell-requires
-    add-k
-    add-x
-    loop2-less
-    loop2-again
-    add-y
-    loop-less
-    loop-again
-    add-z
-    scan-less
-    scan-again
-    returns
-    returns-2)
+    tie.close (tie.spec Inv-loop2 μ-loop2 Inv-loop μ-loop Inv-scan μ-scan scan-holds loop-holds loop2-holds
+    shared-slice-read-bad-cell (λ c κs. search needs) add-k (λ c. omega arith) (λ c. omega arith) loop2-again
+    (λ c. omega arith) (λ c. omega arith) loop-again (λ c. omega arith) (λ c. omega arith) scan-again returns returns-2)

@@ -1,6 +1,5 @@
 -- `report::counting::count_faulty` meets its contract: n of the first k cells are of faulty nodes. Assumes nothing.
-use mathlib.Core.Path.{_≡_, refl, sym, ap, _∙_}
-use mathlib.Core.Logic.{⊎-elim}
+use mathlib.Core.Path.{_≡_, ap, _∙_}
 use mathlib.Core.Bool.{Bool}
 use mathlib.Core.List.{List}
 use Prim.Native.Nat.{ℕ, _-_, _≤_}
@@ -8,9 +7,9 @@ use native.Mathlib.Omega.{arith}
 use borrow.Author.Needs.{needs}
 use denote.Ref.{now}
 use lib.ListN.{length, getD}
-use Rattle.mesh.specs.Tools.{sum, count}
+use Rattle.mesh.specs.Tools.{count}
 use Rattle.mesh.specs.Cells.{faultyCell}
-use Rattle.report.proofs.Tally.{one-more, as-many}
+use Rattle.report.proofs.Tally.{Tally, none, one-more}
 use Rattle.report.proofs.counting.count_faulty.Statement.{statement}
 use Rattle.report.proofs.counting.count_faulty.Tie as tie
 
@@ -18,60 +17,25 @@ abbrev isFaulty : List ℕ → ℕ → Bool
 isFaulty cells k = faultyCell (getD cells k 0)
 
 abbrev Inv-loop : tie.InvT-loop
-Inv-loop cells n₀ k₀ k-end n k = (k ≤ length cells) × (n ≤ k) × (n ≡ count k (isFaulty cells))
+Inv-loop cells n₀ k₀ k-end n k = (k ≤ length cells) × Tally (isFaulty cells) k n
 
 abbrev μ-loop : tie.MeasureT-loop
 μ-loop cells n₀ k₀ k-end n k = length cells - k
 
-none : (p : ℕ → Bool) → _≡_ {A = ℕ} 0 (count 0 p)
-unfolding sum
-none p = refl
-
-loop-holds : tie.Need-loop-holds Inv-loop μ-loop
-loop-holds c = (omega arith, omega arith, none (isFaulty (now (c .before .args .cells))))
-
-shared-slice-read-faulty-cell : tie.Need-shared-slice-read-faulty-cell Inv-loop μ-loop
-shared-slice-read-faulty-cell c = omega arith
-
-faulty-cell-requires : tie.Need-faulty-cell-requires Inv-loop μ-loop
-faulty-cell-requires c κs = search needs
-
-add-n : tie.Need-add-n Inv-loop μ-loop
-add-n c = omega arith
-
-add-k : tie.Need-add-k Inv-loop μ-loop
-add-k c = omega arith
-
-loop-less : tie.Need-loop-less Inv-loop μ-loop
-loop-less c = omega arith
-
 loop-again : tie.Need-loop-again Inv-loop μ-loop
 loop-again c =
-    let a = c .before .before .before .before .before .before .args in
-    let l = c .before .before .before .before .loop in
-    let p = isFaulty (now (a .cells)) in
-    let e = sym (c .before .faulty-cell .ensures) in
-    ⊎-elim
-    (λ w. (omega arith, omega (arith, w .1), omega (arith, w .1, l .inv .2, one-more p (l .k) (e ∙ w .0 .taken))))
-    (λ w. (omega arith, omega (arith, w .1), omega (arith, w .1, l .inv .2, as-many p (l .k) (e ∙ w .0 .left))))
-    (c .if1 .came)
+    let l = c .before .before .before .loop in
+    let cells = now (c .before .before .before .before .before .args .cells) in
+    (omega arith, one-more (isFaulty cells) (l .k) (l .n) _ (l .inv .1) (c .faulty-bit .ensures))
 
 returns : tie.Need-returns Inv-loop μ-loop
 returns c =
-    let e : c .before .loop .k ≡ length (now (c .before .before .before .args .cells)) = omega arith in
-    c .before .loop .inv .2 ∙ ap (λ (k : ℕ). count k (isFaulty (now (c .before .before .before .args .cells)))) e
+    let l = c .before .loop in
+    let cells = now (c .before .before .before .args .cells) in
+    let e : l .k ≡ length cells = omega arith in
+    l .inv .1 .is ∙ ap (λ (k : ℕ). count k (isFaulty cells)) e
 
 pub count-faulty-spec : {M : Type 1} → statement M
 count-faulty-spec =
-    tie.close
-    (tie.spec
-    Inv-loop
-    μ-loop
-    loop-holds
-    shared-slice-read-faulty-cell
-    faulty-cell-requires
-    add-n
-    add-k
-    loop-less
-    loop-again
-    returns)
+    tie.close (tie.spec Inv-loop μ-loop (λ c. (omega arith, none _)) (λ c. omega arith) (λ c κs. search needs)
+    (λ c. omega arith) (λ c. omega arith) (λ c. omega arith) (λ c. omega arith) loop-again returns)

@@ -1,16 +1,15 @@
 -- `report::counting::count_marked` meets its contract: n of the first k bytes have the mark. Assumes nothing.
-use mathlib.Core.Path.{_≡_, refl, ap, _∙_}
-use mathlib.Core.Logic.{⊎-elim}
+use mathlib.Core.Path.{_≡_, ap, _∙_}
 use mathlib.Core.Bool.{Bool}
 use mathlib.Core.List.{List}
 use Prim.Native.Nat.{ℕ, _-_, _≤_, _/_, _%_}
 use native.Mathlib.Omega.{arith}
-use borrow.Author.Tests.{eq-eqb, ne-eqb}
 use denote.Ref.{now}
 use lib.ListN.{length, getD}
 use lib.Dec.{eqb}
-use Rattle.mesh.specs.Tools.{sum, count}
-use Rattle.report.proofs.Tally.{one-more, as-many}
+use Rattle.mesh.specs.Tools.{bit, count}
+use Rattle.mesh.proofs.Bits.{bit-of}
+use Rattle.report.proofs.Tally.{Tally, none, one-more}
 use Rattle.report.proofs.counting.count_marked.Statement.{statement}
 use Rattle.report.proofs.counting.count_marked.Tie as tie
 
@@ -18,60 +17,29 @@ abbrev marked : List ℕ → ℕ → ℕ → Bool
 marked marks mark k = eqb (getD marks k 0 / mark % 2) 1
 
 abbrev Inv-loop : tie.InvT-loop
-Inv-loop marks mark n₀ k₀ k-end n k = (k ≤ length marks) × (n ≤ k) × (n ≡ count k (marked marks mark))
+Inv-loop marks mark n₀ k₀ k-end n k = (k ≤ length marks) × Tally (marked marks mark) k n
 
 abbrev μ-loop : tie.MeasureT-loop
 μ-loop marks mark n₀ k₀ k-end n k = length marks - k
 
-none : (p : ℕ → Bool) → _≡_ {A = ℕ} 0 (count 0 p)
-unfolding sum
-none p = refl
-
-loop-holds : tie.Need-loop-holds Inv-loop μ-loop
-loop-holds c = (omega arith, omega arith, none (marked (now (c .args .marks)) (c .args .mark)))
-
-shared-slice-read-if1 : tie.Need-shared-slice-read-if1 Inv-loop μ-loop
-shared-slice-read-if1 c = omega arith
-
-div-if1 : tie.Need-div-if1 Inv-loop μ-loop
-div-if1 c = c .before .before .before .pre
-
-add-n : tie.Need-add-n Inv-loop μ-loop
-add-n c = omega arith
-
-add-k : tie.Need-add-k Inv-loop μ-loop
-add-k c = omega arith
-
-loop-less : tie.Need-loop-less Inv-loop μ-loop
-loop-less c = omega arith
+-- a remainder by 2 is the bit of its test
+remainder : (n : ℕ) → n % 2 ≡ bit (eqb (n % 2) 1)
+remainder n = bit-of (n % 2) (omega arith)
 
 loop-again : tie.Need-loop-again Inv-loop μ-loop
 loop-again c =
-    let a = c .before .before .before .before .args in
-    let l = c .before .before .before .loop in
-    let p = marked (now (a .marks)) (a .mark) in
-    ⊎-elim
-    (λ w. (omega arith, omega (arith, w .1), omega (arith, w .1, l .inv .2, one-more p (l .k) (eq-eqb _ _ (w .0 .taken)))))
-    (λ w. (omega arith, omega (arith, w .1), omega (arith, w .1, l .inv .2, as-many p (l .k) (ne-eqb _ _ (w .0 .left)))))
-    (c .if1 .came)
+    let l = c .before .before .loop in
+    let a = c .before .before .before .args in
+    (omega arith, one-more (marked (now (a .marks)) (a .mark)) (l .k) (l .n) _ (l .inv .1) (remainder (getD (now (a .marks)) (l .k) 0 / a .mark)))
 
 returns : tie.Need-returns Inv-loop μ-loop
 returns c =
-    let e : c .before .loop .k ≡ length (now (c .before .before .args .marks)) = omega arith in
+    let l = c .before .loop in
     let a = c .before .before .args in
-    c .before .loop .inv .2 ∙ ap (λ (k : ℕ). count k (marked (now (a .marks)) (a .mark))) e
+    let e : l .k ≡ length (now (a .marks)) = omega arith in
+    l .inv .1 .is ∙ ap (λ (k : ℕ). count k (marked (now (a .marks)) (a .mark))) e
 
 pub count-marked-spec : {M : Type 1} → statement M
 count-marked-spec =
-    tie.close
-    (tie.spec
-    Inv-loop
-    μ-loop
-    loop-holds
-    shared-slice-read-if1
-    div-if1
-    add-n
-    add-k
-    loop-less
-    loop-again
-    returns)
+    tie.close (tie.spec Inv-loop μ-loop (λ c. (omega arith, none _)) (λ c. omega arith) (λ c. c .before .before .before .pre)
+    (λ c. omega arith) (λ c. omega arith) (λ c. omega arith) (λ c. omega arith) loop-again returns)

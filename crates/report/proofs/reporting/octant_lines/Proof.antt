@@ -31,9 +31,6 @@ one-more : (m : Map) (o : ℕ) → octantLines m (o + 1) ≡ octantLines m o ++ 
 unfolding octantLines
 one-more m o = rw add-one
 
-orientations-requires : tie.Need-orientations-requires Inv-loop μ-loop
-orientations-requires c κs = search needs
-
 loop-holds : tie.Need-loop-holds Inv-loop μ-loop
 loop-holds c =
     let a = c .before .before .before .args in
@@ -46,12 +43,6 @@ octant-line-requires : tie.Need-octant-line-requires Inv-loop μ-loop
 octant-line-requires c κs =
     let l = c .before .before .before in
     omega (arith, l .before .before .before .before .pre .1, l .before .orientations .ensures .1, l .loop .inv .1, l .loop .inv .2)
-
-add-o : tie.Need-add-o Inv-loop μ-loop
-add-o c = omega arith
-
-loop-less : tie.Need-loop-less Inv-loop μ-loop
-loop-less c = omega arith
 
 loop-again : tie.Need-loop-again Inv-loop μ-loop
 loop-again c =
@@ -86,16 +77,5 @@ returns c =
 
 pub octant-lines-spec : {M : Type 1} → statement M
 octant-lines-spec =
-    tie.close
-    (tie.spec
-    Inv-loop
-    μ-loop
-    orientations-requires
-    loop-holds
-    figures-requires
-    octant-line-requires
-    add-o
-    loop-less
-    loop-again
-    same-length
-    returns)
+    tie.close (tie.spec Inv-loop μ-loop (λ c κs. search needs) loop-holds figures-requires octant-line-requires
+    (λ c. omega arith) (λ c. omega arith) loop-again same-length returns)

@@ -5,19 +5,16 @@ use Prim.Native.Nat.{ℕ}
 use native.Mathlib.Omega.{arith}
 use borrow.Author.Needs.{needs}
 use denote.Ref.{now}
-use lib.ListN.{length, take}
 use Rattle.mesh.specs.Mesh.{nodes}
 use Rattle.mesh.specs.Cells.{mapOf}
-use Rattle.mesh.specs.Answers.{refusalNo, checkMap}
+use Rattle.mesh.specs.Answers.{refusalNo}
 use Rattle.mesh.specs.declared.Sizes.{Sizes}
 use Rattle.mesh.specs.declared.Refusal.{Refusal}
-use Rattle.mesh.specs.declared.Answer.the-variants.{Done}
-use Rattle.mesh.proofs.Answers.{map-granted}
 use Rattle.mapfile.specs.Format.{cellsIn}
 use Rattle.mapfile.specs.Entry.{readAnswer}
 use Rattle.mapfile.specs.declared.MapRead.{MapRead}
 use Rattle.mapfile.specs.declared.MapRead.the-variants.{Read, NotRead}
-use Rattle.mapfile.proofs.Read.{in-order, in-range, in-front}
+use Rattle.mapfile.proofs.Read.{HasRead, has-read}
 use Rattle.text.proofs.Saying.{said-as}
 use Rattle.report.specs.Report.{mapReport, refusalLine, reportOn, report}
 use Rattle.report.proofs.reporting.report.Statement.{statement}
@@ -31,61 +28,30 @@ refusal-text : (file : List ℕ) (r : Refusal) → readAnswer file 4096 ≡ NotR
 unfolding report
 refusal-text file r is = sym (ap (λ (a : MapRead). reportOn a (cellsIn file)) is)
 
--- what the code knows where a map was read
-answer-is : (c : tie.After-known-told) →
-    let s = c .before .before .before .before .before .before .before .before .before in
-    readAnswer (now (s .args .file)) 4096 ≡ Read (c .before .s .given .0 .0)
-answer-is c =
+has : (c : tie.After-known-told) →
     let read = c .before .before .before .before in
-    let made = read .before .before in
-    let file = now (made .before .before .before .args .file) in
-    ap (readAnswer file) (sym (made .blank-cells .ensures)) ∙ sym (read .read-map .ensures .0) ∙ c .before .s .given .1
-
-cells-are : (c : tie.After-nodes) →
-    let told = c .before in
-    let s = told .before .before .before .before .before .before .before .before .before in
-    take (c .nodes .result) (told .before .before .before .before .read-map .last .1 .0) ≡ cellsIn (now (s .args .file))
-cells-are c =
-    let told = c .before in
-    let read = told .before .before .before .before in
-    let made = read .before .before in
-    let file = now (made .before .before .before .args .file) in
-    ap (λ (n : ℕ). take n (read .read-map .last .1 .0)) (c .nodes .ensures .0)
-    ∙ ap (take (nodes (told .before .s .given .0 .0))) (read .read-map .ensures .1)
-    ∙ in-front file 4096 (told .before .s .given .0 .0) (answer-is told) (made .blank-cells .result) (made .blank-cells .ensures)
+    HasRead (now (read .before .before .before .before .before .args .file)) 4096 (c .before .s .given .0 .0) (read .read-map .last .1 .0)
+has c =
+    let read = c .before .before .before .before in
+    has-read (read .before .before .buffer .result) (read .before .before .buffer .ensures) (read .read-map .ensures) (c .before .s .given .1)
 
 nodes-requires : tie.Need-nodes-requires
-nodes-requires c κs =
-    let file = now (c .before .before .before .before .before .before .before .before .before .args .file) in
-    let S = c .before .s .given .0 .0 in
-    in-range file 4096 S (answer-is c)
+nodes-requires c κs = has c .sized
 
 slice-aggregate-map-report : tie.Need-slice-aggregate-map-report
-slice-aggregate-map-report c =
-    let told = c .before .before in
-    let file = now (told .before .before .before .before .before .before .before .before .before .args .file) in
-    let S = told .before .s .given .0 .0 in
-    c .before .nodes .ensures .0 ∙ sym (ap length (cells-are (c .before)) ∙ map-granted S (cellsIn file) (in-order file 4096 S (answer-is told)) .whole)
+slice-aggregate-map-report c = has (c .before .before) .whole (c .before .nodes .ensures .0)
 
 map-report-requires : tie.Need-map-report-requires
-map-report-requires c κs =
-    let n = c .before .before in
-    let told = n .before in
-    let s = told .before .before .before .before .before .before .before .before .before in
-    let S = told .before .s .given .0 .0 in
-    (ap (checkMap S) (cells-are n) ∙ in-order (now (s .args .file)) 4096 S (answer-is told), s .pre)
+map-report-requires c κs = let n = c .before .before in (has (n .before) .ordered (n .nodes .ensures .0), search needs)
 
 returns : tie.Need-returns
 returns c =
-    let called = c .before .before in
-    let n = called .before .before .before in
-    let told = n .before in
-    let a = told .before .before .before .before .before .before .before .before .before .args in
-    let S = told .before .s .given .0 .0 in
-    let e = ap (λ (l : List ℕ). mapReport (mapOf S l)) (cells-are n) ∙ map-text (now (a .file)) S (answer-is told) in (
-      said-as e (called .map-report .ensures .0),
-      called .map-report .ensures .1,
-    )
+    let called = c .before .before .map-report .ensures in
+    let n = c .before .before .before .before .before in
+    let known = has (n .before) in
+    let S = n .before .before .s .given .0 .0 in
+    let e = ap (λ (l : List ℕ). mapReport (mapOf S l)) (known .cells (n .nodes .ensures .0)) ∙ map-text _ S (known .answer) in
+    (said-as e (called .0), called .1)
 
 returns-2 : tie.Need-returns-2
 returns-2 c =
@@ -96,7 +62,7 @@ returns-2 c =
     let made = read .before .before in
     let a = made .before .before .before .args in
     let r = taken .r .given .0 .0 in
-    let is = ap (readAnswer (now (a .file))) (sym (made .blank-cells .ensures)) ∙ sym (read .read-map .ensures .0) ∙ taken .r .given .1 in
+    let is = ap (readAnswer (now (a .file))) (made .buffer .ensures) ∙ sym (read .read-map .ensures .0) ∙ taken .r .given .1 in
     let e = ap refusalLine (number .number .ensures) ∙ refusal-text (now (a .file)) r is in (
       said-as e (called .refusal-line .ensures .0),
       omega (arith, called .refusal-line .ensures .1),
