@@ -24,7 +24,7 @@ fn brings(s: Sizes, state: &[u8], k: usize, j: usize, word: u8) -> bool
 }
 
 // The word comes over the link.
-pub fn tell(s: Sizes, o: usize, link: usize, word: u8, state: &mut [u8])
+pub fn come(s: Sizes, o: usize, link: usize, word: u8, state: &mut [u8])
     requires { ⌜ Fit s o (now state) × (link < links s) ⌝ }
     ensures { λ _. ⌜ now (state .exit) ≡ comes s o link word (now (state .entry)) ⌝ }
 {
@@ -53,7 +53,7 @@ fn swap(s: Sizes, o: usize, link: usize, state: &mut [u8], way: &mut [u8])
     let word = saying(s, state, link);
     let earlier = way[link];
     way[link] = word;
-    tell(s, o, link, earlier, state);
+    come(s, o, link, earlier, state);
 }
 
 // A number is drawn, and the word of the link meets its fate.
@@ -78,10 +78,10 @@ pub fn visit(
         return g;
     }
     let word = saying(s, state, link);
-    tell(s, o, link, word, state);
+    come(s, o, link, word, state);
     if fate > 4 {
         return g;
     }
-    tell(s, o, link, word, state);
+    come(s, o, link, word, state);
     g
 }

@@ -1,8 +1,8 @@
 // Rounds of words: first some with loss, then full ones.
 use crate::chance::chosen;
 use crate::chance::following;
+use crate::links::come;
 use crate::links::saying;
-use crate::links::tell;
 use crate::links::visit;
 use mesh::Sizes;
 ghost use mathlib.Core.Path.{_≡_};
@@ -74,7 +74,7 @@ fn full_round(s: Sizes, o: usize, state: &mut [u8])
 {
     for link in 0..links(s) {
         let word = saying(s, state, link);
-        tell(s, o, link, word, state);
+        come(s, o, link, word, state);
     }
 }
 

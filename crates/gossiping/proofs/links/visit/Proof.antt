@@ -34,16 +34,16 @@ returns-3 c =
     let told = c .before .before .before in
     let word = told .before .before in
     let k = word .before .before .before .before in
-    rw (told .tell .ensures, word .saying .ensures) (by k once (is-once _ (c .if3 .taken)))
+    rw (told .come .ensures, word .saying .ensures) (by k once (is-once _ (c .if3 .taken)))
 
-tell-requires-2 : tie.Need-tell-requires-2
-tell-requires-2 c κs =
+come-requires-2 : tie.Need-come-requires-2
+come-requires-2 c κs =
     let told = c .before .before .before .before in
     let word = told .before .before in
     let s = word .before .before .before .before .before .before .before .before in
     let a = s .args in
     let fit = hear-fit (a .s) (a .o) (now (a .state)) (s .pre .0 .fit) (a .link / 6) (a .link % 6) (word .saying .result) in
-    (subst⁻¹ (Fit (a .s) (a .o)) (told .tell .ensures) fit, s .pre .1)
+    (subst⁻¹ (Fit (a .s) (a .o)) (told .come .ensures) fit, s .pre .1)
 
 returns-4 : tie.Need-returns-4
 returns-4 c =
@@ -52,11 +52,11 @@ returns-4 c =
     let told = l .before .before .before in
     let word = told .before .before in
     let e = word .before .before in
-    rw (again .tell2 .ensures, told .tell .ensures, word .saying .ensures)
+    rw (again .come2 .ensures, told .come .ensures, word .saying .ensures)
     (by (e .before .before) twice (is-twice _ (e .if2 .left) (omega (arith, l .if3 .left))))
 
 pub visit-spec : {M : Type 1} → statement M
 visit-spec =
     tie.close (tie.spec (λ c κs. search needs) (λ c κs. search needs) returns (λ c κs. search needs) (λ c. search needs)
     (λ c. search needs) returns-2 (λ c κs. search needs) (λ c κs. search needs) (λ c. search needs) returns-3
-    tell-requires-2 (λ c. search needs) returns-4)
+    come-requires-2 (λ c. search needs) returns-4)

@@ -32,8 +32,8 @@ saying-requires c κs =
     let l = c .before .before in
     (ready _ _ _ (fit l), omega (arith, l .before .links .ensures .0))
 
-tell-requires : tie.Need-tell-requires Inv-loop μ-loop
-tell-requires c κs =
+come-requires : tie.Need-come-requires Inv-loop μ-loop
+come-requires c κs =
     let l = c .before .before .before .before in
     (fit l, omega (arith, l .before .links .ensures .0))
 
@@ -45,8 +45,8 @@ loop-again c =
     let a = l .before .before .before .args in
     let i = l .loop .link in (
       omega arith,
-      told .tell .kept .1 .1 .1 .1 .0 ∙ l .loop .inv .1,
-      told .tell .ensures
+      told .come .kept .1 .1 .1 .1 .0 ∙ l .loop .inv .1,
+      told .come .ensures
           ∙ ap (λ (w : ℕ). comes (a .s) (a .o) i w (l .loop .state)) (word .saying .ensures)
           ∙ ap (λ (t : List ℕ). comes (a .s) (a .o) i (saying (a .s) t i) t) (l .loop .inv .2)
           ∙ sym (tell-more (a .s) (a .o) (now (a .state)) i),
@@ -63,6 +63,6 @@ returns c =
 pub full-round-spec : {M : Type 1} → statement M
 full-round-spec =
     tie.close (tie.spec Inv-loop μ-loop (λ c κs. c .before .pre .sized)
-    (λ c. (omega arith, refl, none-told _ _ _)) saying-requires tell-requires
+    (λ c. (omega arith, refl, none-told _ _ _)) saying-requires come-requires
     (λ c. omega (arith, c .before .before .before .before .before .before .before .before .links .ensures .2)) (λ c. omega arith)
     loop-again (λ c. c .before .loop .inv .1) returns)
