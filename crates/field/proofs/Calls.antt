@@ -1,12 +1,12 @@
 -- When a call on a state is granted, and what it then does. Assumes nothing.
-use mathlib.Core.Path.{_≡_, refl, sym, _∙_}
+use mathlib.Core.Path.{_≡_, refl, sym, _∙_, subst}
 use mathlib.Core.Logic.{_↔_, _≢_, _⊎_, inl, inr}
-use mathlib.Core.Bool.{Bool, true, false}
+use mathlib.Core.Bool.{Bool, true, false, not, _&&_}
 use mathlib.Core.List.{List}
 use Prim.Native.Nat.{ℕ, _+_, _*_, _<_, _≤_}
 use native.Mathlib.Omega.{arith}
 use native.Mathlib.Decide.{ℕ-discrete}
-use lib.Dec.{T}
+use lib.Dec.{T, eqb}
 use lib.ListN.{getD, length}
 use Rattle.mesh.specs.Mesh.{inRange, nodes}
 use Rattle.mesh.specs.Cells.{Map, stateLength}
@@ -17,7 +17,7 @@ use Rattle.mesh.specs.declared.Refusal.{Refusal}
 use Rattle.mesh.specs.declared.Answer.{Answer}
 use Rattle.mesh.specs.declared.Answer.the-variants.{Done, Refused}
 use Rattle.mesh.specs.declared.Numbered.the-variants.{Number}
-use Rattle.mesh.proofs.Tests.{T-eq, T-le}
+use Rattle.mesh.proofs.Tests.{T-and, T-eq, T-le, tried}
 use Rattle.field.specs.State.{own, heard, SameAt, mapIn, pair, says}
 use Rattle.field.specs.Sound.{_noMoreThan_, Sound, SoundOn}
 use Rattle.field.specs.Hear.{addMarks, changed, outstandingOn}
@@ -124,6 +124,18 @@ module _ (m : Map) (o : ℕ) (fit : T (inRange (m .sizes))) (o-le : o ≤ 7) (s 
   hears k j w = elim (granted-or-not (m .sizes) o k j w s) [
     | inl e ↦ let (q, f) = hear-passed (m .sizes) o k j w s .0 (e .0) in inl (rw (pair-in m o s z k j) at (q .1), f, e .1)
     | inr e ↦ inr e
+  ]
+
+  -- a word that brings no news, or that may not cross, changes nothing
+  pub no-news : (k j w : ℕ) → pair m k j && not (eqb (heard s k j) w) ≡ false → hearOut (m .sizes) o k j w s ≡ s
+  no-news k j w old = elim (hears k j w) [
+    | inr e ↦ e
+    | inl g ↦ let t = g .0 in elim (tried (eqb (heard s k j) w)) [
+      | inl q ↦
+          let e : heard s k j ≡ w = T-eq (heard s k j) w .0 q in
+          late k j w t (subst (λ (v : ℕ). T (isWord v)) e (z .words k j t .0)) (subst (λ (v : ℕ). v noMoreThan heard s k j) e λ a x. x) .1
+      | inr n ↦ absurd (subst (λ (b : Bool). T b) old (T-and (pair m k j) (not (eqb (heard s k j) w)) .1 (t, n)))
+    ]
   ]
 
   -- the number outstanding is exact

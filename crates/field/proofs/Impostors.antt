@@ -23,7 +23,7 @@ use Rattle.field.specs.Hear.{outstandingOn}
 use Rattle.field.specs.Entries.{freshAnswer, freshOut, soundAnswer, outstandingAnswer, hearAnswer, hearOut}
 use Rattle.field.specs.Rounds.{Call, hearing, asking, making, run, stretch, FullRounds, none, more}
 use Rattle.field.specs.Promise.{enoughRounds, Settled, Promise}
-use Rattle.field.specs.Computed.{computed}
+use Rattle.field.proofs.Computed.{computed}
 use Rattle.field.proofs.Fresh.{fresh-promise}
 use Rattle.field.proofs.Promise.{made-promise}
 

@@ -30,6 +30,11 @@ stretch-split (c ∷ a) b t =
     let (x, y) = stretch-split a b r in
     (T-and (keeps c) (stretch a) .1 (k, x), y)
 
+pub stretch-join : (a b : List Call) → T (stretch a) → T (stretch b) → T (stretch (a ++ b))
+stretch-join [] b t u = u
+stretch-join (c ∷ a) b t u =
+    let (x, y) = T-and (keeps c) (stretch a) .0 t in T-and (keeps c) (stretch (a ++ b)) .1 (x, stretch-join a b y u)
+
 pub run-append : (S : Sizes) (o : ℕ) (a b : List Call) (s : List ℕ) → run S o s (a ++ b) ≡ run S o (run S o s a) b
 run-append S o [] b s = refl
 run-append S o (c ∷ a) b s = run-append S o a b (after S o s c)

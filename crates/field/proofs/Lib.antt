@@ -17,7 +17,9 @@ pub mod Later
 pub mod Exact
 pub mod Counted
 pub mod Rounds
+pub mod Soon
 pub mod Exists
 pub mod Promise
 pub mod Flat
+pub mod Computed
 pub mod Impostors

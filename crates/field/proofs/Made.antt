@@ -30,11 +30,12 @@ use Rattle.field.proofs.Taken.{heard-byte}
 
 -- ---- two stores
 
-pub stored-two : (s : List ℕ) (k j v w : ℕ) → j < 5 → 7 * k + 7 ≤ length s → Stored s (set (set s (7 * k + 1 + j) v) (7 * k + 1 + (j + 1)) w) k j v w
-stored-two s k j v w h l = record {
-  up = getD-set-other (set s (7 * k + 1 + j) v) (7 * k + 1 + (j + 1)) (7 * k + 1 + j) w 0 (omega arith) ∙ getD-set-same s (7 * k + 1 + j) v 0 (omega arith);
-  down = getD-set-same (set s (7 * k + 1 + j) v) (7 * k + 1 + (j + 1)) w 0 (simp length-set (omega arith));
-  kept = λ i p q. getD-set-other (set s (7 * k + 1 + j) v) (7 * k + 1 + (j + 1)) i w 0 q ∙ getD-set-other s (7 * k + 1 + j) i v 0 p;
+pub stored-two : (s : List ℕ) (k j : ℕ) {v w x y : ℕ} → j < 5 → 7 * k + 7 ≤ length s → x ≡ v → y ≡ w
+    → Stored s (set (set s (7 * k + 1 + j) x) (7 * k + 1 + (j + 1)) y) k j v w
+stored-two s k j {x = x} {y = y} h l e f = record {
+  up = getD-set-other (set s (7 * k + 1 + j) x) (7 * k + 1 + (j + 1)) (7 * k + 1 + j) y 0 (omega arith) ∙ getD-set-same s (7 * k + 1 + j) x 0 (omega arith) ∙ e;
+  down = getD-set-same (set s (7 * k + 1 + j) x) (7 * k + 1 + (j + 1)) y 0 (simp length-set (omega arith)) ∙ f;
+  kept = λ i p q. getD-set-other (set s (7 * k + 1 + j) x) (7 * k + 1 + (j + 1)) i y 0 q ∙ getD-set-other s (7 * k + 1 + j) i x 0 p;
 }
 
 -- ---- what a node hears at first

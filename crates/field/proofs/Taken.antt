@@ -1,7 +1,7 @@
 -- What the checks of a call grant, in the words that the code asks; and that the code's two stores are what a word changes. Assumes nothing.
 use mathlib.Core.Path.{_≡_, refl, ap, _∙_}
 use mathlib.Core.Logic.{inl, inr}
-use mathlib.Core.Bool.{Bool, _&&_}
+use mathlib.Core.Bool.{Bool, true, false, _&&_}
 use mathlib.Core.List.{List}
 use Prim.Native.Nat.{ℕ, _+_, _*_, _<_, _≤_}
 use native.Mathlib.Omega.{arith}
@@ -14,19 +14,22 @@ use Rattle.mesh.specs.Mesh.{InRange, nodes, placeOf}
 use Rattle.mesh.specs.Steps.{next, neighbour}
 use Rattle.mesh.specs.Cells.{Map, wall}
 use Rattle.mesh.specs.Marks.{has, byteOf, isWord}
-use Rattle.mesh.specs.Answers.{_andThen_, checkOrientation, checkNode, checkDirection}
+use Rattle.mesh.specs.Answers.{_andThen_, unless, checkOrientation, checkNode, checkDirection}
 use Rattle.mesh.specs.declared.Sizes.{Sizes}
 use Rattle.mesh.specs.declared.Next.{Next}
 use Rattle.mesh.specs.declared.Next.the-variants.{At, Edge}
+use Rattle.mesh.specs.declared.Refusal.{Refusal}
+use Rattle.mesh.specs.declared.Refusal.the-variants.{Unsound, NoPair, NotHeld}
 use Rattle.mesh.specs.declared.Answer.the-variants.{Done}
 use Rattle.mesh.proofs.Tests.{tried, holds-true}
-use Rattle.mesh.proofs.Answers.{sizes-of}
+use Rattle.mesh.proofs.Answers.{sizes-of, split, orientation-granted}
 use Rattle.mesh.proofs.Bytes.{word-cases}
 use Rattle.field.specs.State.{heard, mapIn, worksNode, pair, says}
-use Rattle.field.specs.Sound.{within, SoundOn, Sound}
+use Rattle.field.specs.Sound.{within, sound, SoundOn, Sound}
 use Rattle.field.specs.Hear.{addMarks, added, ruledAt, changed}
 use Rattle.field.specs.Scan.{Ready, isOwn, isHeard, fits, quickRule}
 use Rattle.field.specs.Entries.{checkState, checkWord, soundAnswer, hearAnswer}
+use Rattle.field.proofs.Decide.{sound-iff}
 use Rattle.field.proofs.State.{pair-talks, talks-pair, speaker-lt, speaker-works}
 use Rattle.field.proofs.Same.{works-word}
 use Rattle.field.proofs.Hear.{added-word}
@@ -35,8 +38,13 @@ use Rattle.field.proofs.Calls.{state-passed, numbers-passed, sound-pass
 
 -- ---- the checks
 
-pub ready : (S : Sizes) (s : List ℕ) → checkState S (length s) ≡ Done → Ready S s
+ready : (S : Sizes) (s : List ℕ) → checkState S (length s) ≡ Done → Ready S s
 ready S s e = let (t, l) = state-passed S (length s) .0 e in record { sized = sizes-of S (holds-true _ .0 t); long = l }
+
+-- past the checks of a question
+pub question-ready : (S : Sizes) (s : List ℕ) (o : ℕ) → checkState S (length s) andThen checkOrientation o ≡ Done → Ready S s × (o ≤ 7)
+question-ready S s o e =
+    let (f, g) = split (checkState S (length s)) (checkOrientation o) e in (ready S s f, orientation-granted o g)
 
 pub state-sized : (S : Sizes) (n : ℕ) → checkState S n ≡ Done → InRange S
 state-sized S n e = sizes-of S (holds-true _ .0 (state-passed S n .0 e .0))
@@ -67,6 +75,25 @@ held-is S o s z k j w t v =
     let r = pair-talks (mapIn S s) k j t in
     let n = works-word (mapIn S s) o s z (neighbour S k j) (speaker-lt (mapIn S s) k j r) (speaker-works (mapIn S s) k j r) in
     fits-word (says S s k j) w n ∙ ap (λ (b : Bool). b && within w (says S s k j)) (holds-true (isWord w) .0 v)
+
+-- the last three checks of a call of hear; a sound state's pair is asked for the last one alone
+pub held-last : (S : Sizes) (o : ℕ) (s : List ℕ) (k j w : ℕ) → T (isWord w)
+    → unless (sound S o s) Unsound andThen unless (pair (mapIn S s) k j) NoPair andThen unless (fits (says S s k j) w) NotHeld
+    ≡ unless (sound S o s) Unsound andThen unless (pair (mapIn S s) k j) NoPair andThen unless (within w (says S s k j)) NotHeld
+held-last S o s k j w v = go (sound S o s) refl (pair (mapIn S s) k j) refl
+  where
+    go : (t : Bool) → sound S o s ≡ t → (p : Bool) → pair (mapIn S s) k j ≡ p
+        → unless t Unsound andThen unless p NoPair andThen unless (fits (says S s k j) w) NotHeld
+        ≡ unless t Unsound andThen unless p NoPair andThen unless (within w (says S s k j)) NotHeld
+    go false e p f = refl
+    go true e false f = refl
+    go true e true f = rw (held-is S o s (sound-iff S o s .0 (holds-true _ .1 e)) k j w (holds-true _ .1 f) v)
+
+-- tests that are refused alike are one test
+pub three-tests : (a b c : Bool) (r : Refusal) → unless (a && b && c) r ≡ unless a r andThen unless b r andThen unless c r
+three-tests false b c r = refl
+three-tests true false c r = refl
+three-tests true true c r = refl
 
 -- ---- the two stores
 

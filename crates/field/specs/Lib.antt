@@ -5,4 +5,3 @@ pub mod Scan
 pub mod Entries
 pub mod Rounds
 pub mod Promise
-pub mod Computed

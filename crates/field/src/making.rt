@@ -38,28 +38,11 @@ fn fresh_down(cells: &[u8], k: usize, c: usize, n: usize, step: usize) -> u8
     }
 }
 
-// The byte that is heard, unless the node is faulty.
-fn heard_by(faulty: bool, b: u8) -> u8
-    ensures { λ r. ⌜ ((m : Map) (p : Place) (j : ℕ) → r ≡ cond faulty (faultyHears m p j) b) ⌝ }
+// The byte of a faulty node, or that of a working one.
+fn byte_by(faulty: bool, failed: u8, working: u8) -> u8
+    ensures { λ r. ⌜ r ≡ cond faulty failed working ⌝ }
 {
-    if faulty { faulty_hears() } else { b }
-}
-
-// Stores what node k has heard in directions j and j + 1.
-fn put_heard(state: &mut [u8], k: usize, j: usize, up: u8, down: u8)
-    requires { ⌜ (j < 5) × Held (now state) k ⌝ }
-    ensures { λ _. ⌜ Stored (now (state .entry)) (now (state .exit)) k j up down ⌝ }
-{
-    let at = 7 * k + 1;
-    state[at + j] = up;
-    state[at + (j + 1)] = down;
-}
-
-// The own byte, unless the node is faulty.
-fn own_by(faulty: bool, b: u8) -> u8
-    ensures { λ r. ⌜ r ≡ cond faulty 1 b ⌝ }
-{
-    if faulty { 1 } else { b }
+    if faulty { failed } else { working }
 }
 
 // Stores what node k hears on an axis.
@@ -70,9 +53,12 @@ fn put_axis(cells: &[u8], state: &mut [u8], k: usize, j: usize, c: usize, n: usi
         (cond (faultyCell (getD (now (cells .entry)) k 0)) (faultyHears m p (j + 1)) (freshDown (now (cells .entry)) k c step))) ⌝ }
 {
     let faulty = faulty_cell(cells[k]);
-    let up = heard_by(faulty, fresh_up(cells, k, c, n, step));
-    let down = heard_by(faulty, fresh_down(cells, k, c, n, step));
-    put_heard(state, k, j, up, down);
+    let failed = faulty_hears();
+    let up = byte_by(faulty, failed, fresh_up(cells, k, c, n, step));
+    let down = byte_by(faulty, failed, fresh_down(cells, k, c, n, step));
+    let at = 7 * k + 1;
+    state[at + j] = up;
+    state[at + (j + 1)] = down;
 }
 
 // The seven bytes of the node at p, those before it being done.
@@ -84,7 +70,7 @@ fn put_node(s: Sizes, cells: &[u8], o: usize, state: &mut [u8], p: Place)
     put_axis(cells, state, k, 0, p.x, s.w, 1);
     put_axis(cells, state, k, 2, p.y, s.h, s.w);
     put_axis(cells, state, k, 4, p.z, s.d, s.w * s.h);
-    let byte = own_by(faulty_cell(cells[k]), rule_byte(s, o, state, k));
+    let byte = byte_by(faulty_cell(cells[k]), 1, rule_byte(s, o, state, k));
     state[7 * k] = byte;
 }
 

@@ -5,7 +5,7 @@ ghost use mathlib.Core.Path.{_≡_};
 ghost use Prim.Native.Nat.{_<_};
 ghost use lib.Dec.{eqb};
 ghost use Rattle.mesh.specs.Mesh.{InRange, nodes, placeOf};
-ghost use Rattle.mesh.specs.Steps.{neighbour};
+ghost use Rattle.mesh.specs.Steps.{next, neighbour};
 ghost use Rattle.mesh.specs.Cells.{linked};
 ghost use Rattle.field.specs.State.{own, mapIn, pair, says};
 ghost use Rattle.field.specs.Scan.{Ready, Held};
@@ -18,12 +18,20 @@ pub fn faulty(state: &[u8], k: usize) -> bool
     state[7 * k] == 1
 }
 
+// The place next to node k in direction j, or the edge.
+fn next_to(s: Sizes, k: usize, j: usize) -> Next
+    requires { ⌜ InRange s × (k < nodes s) × (j < 6) ⌝ }
+    ensures { λ r. ⌜ r ≡ next s (placeOf s k) j ⌝ }
+{
+    s.place(k).step(j, s)
+}
+
 // May a word cross from node k in direction j?
 fn linked(s: Sizes, state: &[u8], k: usize, j: usize) -> bool
     requires { ⌜ InRange s × (k < nodes s) × (j < 6) ⌝ }
     ensures { λ r. ⌜ r ≡ linked (mapIn s (now (state .entry))) (placeOf s k) j ⌝ }
 {
-    if let Next::At(q) = s.place(k).step(j, s) {
+    if let Next::At(q) = next_to(s, k, j) {
         true
     } else {
         false
@@ -35,7 +43,7 @@ fn neighbour(s: Sizes, k: usize, j: usize) -> usize
     requires { ⌜ InRange s × (k < nodes s) × (j < 6) ⌝ }
     ensures { λ r. ⌜ (r ≡ neighbour s k j) × (r < nodes s) ⌝ }
 {
-    let Next::At(q) = s.place(k).step(j, s) else {
+    let Next::At(q) = next_to(s, k, j) else {
         return 0;
     };
     s.number(q)

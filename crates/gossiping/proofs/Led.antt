@@ -11,13 +11,14 @@ use Rattle.mesh.specs.Cells.{Map}
 use Rattle.mesh.specs.declared.Sizes.{Sizes}
 use Rattle.field.specs.Sound.{fresh}
 use Rattle.field.specs.Rounds.{hearing, run, Later}
-use Rattle.field.proofs.Later.{run-append}
+use Rattle.field.proofs.Later.{stretch-join, run-append}
+use Rattle.field.proofs.Exists.{sweep, sweep-kept}
 use Rattle.field.proofs.Fresh.{fresh-promise}
 use Rattle.gossiping.specs.Chance.{following, chosen, Fate, lost, late, twice, once, fateOf}
 use Rattle.gossiping.specs.Links.{links, Net, net, saying, comes, stateBy, visit, Going}
 use Rattle.gossiping.specs.Rounds.{strides, met, visits, lossyRound, fullRound, lossyRounds, oneRound, afterRounds}
 use Rattle.gossiping.proofs.Going.{following-small, visits-going, tells-fit}
-use Rattle.gossiping.proofs.Full.{joined, calls, calls-kept, round-leads}
+use Rattle.gossiping.proofs.Full.{round-leads}
 
 module _ (S : Sizes) (o : ℕ) where
   stays : (s : List ℕ) → Later S o s s
@@ -27,7 +28,7 @@ module _ (S : Sizes) (o : ℕ) where
   onwards s t u a b =
       record {
         calls = a .calls ++ b .calls;
-        kept = joined (a .calls) (b .calls) (a .kept) (b .kept);
+        kept = stretch-join (a .calls) (b .calls) (a .kept) (b .kept);
         ends = b .ends ∙ ap (λ (v : List ℕ). run S o v (b .calls)) (a .ends) ∙ sym (run-append S o (a .calls) (b .calls) s);
       }
 
@@ -63,7 +64,7 @@ module _ (S : Sizes) (o : ℕ) where
       visits-later (chosen (links S) g) (getD strides (chosen 4 h) 0) (net (n .state) (n .way) h) (links S)
 
   full-later : (s : List ℕ) → Later S o s (fullRound S o s)
-  full-later s = record { calls = calls S o s (links S); kept = calls-kept S o s (links S); ends = sym (round-leads S o s) }
+  full-later s = record { calls = sweep S o s (links S); kept = sweep-kept S o s (links S); ends = sym (round-leads S o s) }
 
   round-later : (r : ℕ) (n : Net) → Later S o (n .state) (oneRound S o r n .state)
   unfolding oneRound

@@ -3,7 +3,6 @@ pub mod Visited
 pub mod Going
 pub mod Counted
 pub mod Figures
-pub mod Soon
 pub mod Full
 pub mod Led
 pub mod Settled

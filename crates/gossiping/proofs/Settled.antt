@@ -20,14 +20,15 @@ use Rattle.field.specs.Rounds.{run, FullRounds, none, more}
 use Rattle.field.specs.Promise.{Promise}
 use Rattle.field.proofs.Same.{sound-on}
 use Rattle.field.proofs.Fresh.{fresh-promise}
+use Rattle.field.proofs.Soon.{soon-settled}
+use Rattle.field.proofs.Exists.{sweep, sweep-full}
 use Rattle.field.proofs.Promise.{promise}
 use Rattle.gossiping.specs.Links.{links, net}
 use Rattle.gossiping.specs.Rounds.{lossyRound, fullRound, lossyRounds, oneRound, afterRounds}
 use Rattle.gossiping.specs.Figures.{outstandingAfter, settledFrom, longest, settledAt}
 use Rattle.gossiping.specs.Promise.{TalkPromise}
 use Rattle.gossiping.proofs.Figures.{marks-ruled}
-use Rattle.gossiping.proofs.Soon.{soon-settled}
-use Rattle.gossiping.proofs.Full.{calls, round-leads, round-full}
+use Rattle.gossiping.proofs.Full.{round-leads}
 use Rattle.gossiping.proofs.Led.{later}
 
 module _ (m : Map) (o : ℕ) where
@@ -48,10 +49,10 @@ module _ (m : Map) (o : ℕ) where
   full : (n r : ℕ) → lossyRounds ≤ r → FullRounds m o (at (r + n)) n (at r)
   full zero r h = let e : r ≡ r + 0 = omega arith in subst (λ (k : ℕ). FullRounds m o (at k) 0 (at r)) e none
   full (suc n) r h =
-      let e : at (suc r) ≡ run S o (at r) (calls S o (at r) (links S)) = full-step r h ∙ sym (round-leads S o (at r)) in
+      let e : at (suc r) ≡ run S o (at r) (sweep S o (at r) (links S)) = full-step r h ∙ sym (round-leads S o (at r)) in
       let size : suc r + n ≡ r + suc n = omega arith in
       let rest = subst (λ (k : ℕ). FullRounds m o (at k) n (at (suc r))) size (full n (suc r) (omega arith)) in
-      more (calls S o (at r) (links S)) (round-full m o (at r)) (subst (λ (s : List ℕ). FullRounds m o (at (r + suc n)) n s) e rest)
+      more (sweep S o (at r) (links S)) (sweep-full m o (at r)) (subst (λ (s : List ℕ). FullRounds m o (at (r + suc n)) n s) e rest)
 
   -- ---- the first round with nothing outstanding
 

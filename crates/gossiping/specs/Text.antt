@@ -1,6 +1,6 @@
 -- The text that is printed for the bytes of a map file. Assumes nothing.
 use mathlib.Core.Bool.{cond}
-use mathlib.Core.List.{List, [], _++_}
+use mathlib.Core.List.{List, [], _∷_, _++_}
 use Prim.Native.Nat.{ℕ, zero, suc}
 use lib.Dec.{leb}
 use Rattle.mesh.specs.Cells.{Map, mapOf}
@@ -9,30 +9,23 @@ use Rattle.mapfile.specs.Format.{cellsIn}
 use Rattle.mapfile.specs.Entry.{readAnswer}
 use Rattle.mapfile.specs.declared.MapRead.{MapRead}
 use Rattle.mapfile.specs.declared.MapRead.the-variants.{Read, NotRead}
-use Rattle.text.specs.Text.{ascii, decimal}
+use Rattle.text.specs.Text.{ascii, told}
 use Rattle.report.specs.Counts.{faultyCount}
 use Rattle.report.specs.Report.{firstLine, orientations, refusalLine, largest}
 use Rattle.field.specs.Promise.{workers, enoughRounds}
 use Rattle.gossiping.specs.Rounds.{lossyRounds}
 use Rattle.gossiping.specs.Figures.{outstandingAfter, marksAfter, settledAt}
 
--- two or three words on a line, each with its number, and the line's end
-unfoldable pub twoOnLine : List ℕ → ℕ → List ℕ → ℕ → List ℕ → List ℕ
-twoOnLine a i b j end = (a ++ decimal i) ++ (b ++ decimal j) ++ end
-
-unfoldable pub threeOnLine : List ℕ → ℕ → List ℕ → ℕ → List ℕ → ℕ → List ℕ
-threeOnLine a i b j c k = (a ++ decimal i) ++ twoOnLine b j c k (ascii "\n")
-
 -- which rounds have loss
-unfoldable pub legend : List ℕ
-legend = (ascii "rounds 1 to " ++ decimal lossyRounds) ++ ascii " lose, repeat, delay and reorder words\n"
+abbrev pub legend : List ℕ
+legend = told (ascii "rounds 1 to % lose, repeat, delay and reorder words\n") (lossyRounds ∷ [])
 
 -- how much news is outstanding and how many marks are held after r rounds: the fresh state is round 0, and one without loss is a full round
-abbrev pub roundWord : ℕ → List ℕ
-roundWord r = cond (leb r lossyRounds) (ascii "round ") (ascii "full round ")
+abbrev pub roundForm : ℕ → List ℕ
+roundForm r = cond (leb r lossyRounds) (ascii "round % outstanding % marks %\n") (ascii "full round % outstanding % marks %\n")
 
 unfoldable pub roundLine : ℕ → ℕ → ℕ → List ℕ
-roundLine r news marks = threeOnLine (roundWord r) r (ascii " outstanding ") news (ascii " marks ") marks
+roundLine r news marks = told (roundForm r) (r ∷ news ∷ marks ∷ [])
 
 unfoldable pub roundLines : Map → ℕ → ℕ → List ℕ
 roundLines m o zero = []
@@ -40,10 +33,10 @@ roundLines m o (suc r) = roundLines m o r ++ roundLine r (outstandingAfter m o r
 
 -- an orientation: how many nodes work, the rounds, and when they settled against the bound 2 × W + 1
 abbrev pub startLine : ℕ → ℕ → List ℕ
-startLine o w = twoOnLine (ascii "octant ") o (ascii " working ") w (ascii "\n")
+startLine o w = told (ascii "octant % working %\n") (o ∷ w ∷ [])
 
 abbrev pub settledLine : ℕ → ℕ → List ℕ
-settledLine r most = twoOnLine (ascii "settled after round ") r (ascii "; ") most (ascii " full rounds always settle\n")
+settledLine r most = told (ascii "settled after round %; % full rounds always settle\n") (r ∷ most ∷ [])
 
 unfoldable pub octantText : Map → ℕ → List ℕ
 octantText m o = startLine o (workers m) ++ roundLines m o (suc (settledAt m o)) ++ settledLine (settledAt m o) (enoughRounds m)

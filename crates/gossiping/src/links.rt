@@ -24,7 +24,7 @@ fn brings(s: Sizes, state: &[u8], k: usize, j: usize, word: u8) -> bool
 }
 
 // The word comes over the link.
-fn tell(s: Sizes, o: usize, link: usize, word: u8, state: &mut [u8])
+pub fn come(s: Sizes, o: usize, link: usize, word: u8, state: &mut [u8])
     requires { ⌜ Fit s o (now state) × (link < links s) ⌝ }
     ensures { λ _. ⌜ now (state .exit) ≡ comes s o link word (now (state .entry)) ⌝ }
 {
@@ -36,35 +36,12 @@ fn tell(s: Sizes, o: usize, link: usize, word: u8, state: &mut [u8])
     hear(s, o, k, j, word as usize, state);
 }
 
-// It comes twice.
-fn tell_twice(s: Sizes, o: usize, link: usize, word: u8, state: &mut [u8])
-    requires { ⌜ Fit s o (now state) × (link < links s) ⌝ }
-    ensures { λ _. ⌜ now (state .exit) ≡ comes s o link word (comes s o link word (now (state .entry))) ⌝ }
-{
-    let k = link / 6;
-    let j = link % 6;
-    if !brings(s, state, k, j, word) {
-        return;
-    }
-    hear(s, o, k, j, word as usize, state);
-    hear(s, o, k, j, word as usize, state);
-}
-
 // The word that its speaker holds.
-fn saying(s: Sizes, state: &[u8], link: usize) -> u8
+pub fn saying(s: Sizes, state: &[u8], link: usize) -> u8
     requires { ⌜ Ready s (now state) × (link < links s) ⌝ }
     ensures { λ r. ⌜ r ≡ saying s (now (state .entry)) link ⌝ }
 {
     says(s, state, link / 6, link % 6)
-}
-
-// The speaker's word comes over the link.
-pub fn say(s: Sizes, o: usize, link: usize, state: &mut [u8])
-    requires { ⌜ Fit s o (now state) × (link < links s) ⌝ }
-    ensures { λ _. ⌜ now (state .exit) ≡ comes s o link (saying s (now (state .entry)) link) (now (state .entry)) ⌝ }
-{
-    let word = saying(s, state, link);
-    tell(s, o, link, word, state);
 }
 
 // The word that was on the way comes, and the speaker's word is on the way.
@@ -76,7 +53,7 @@ fn swap(s: Sizes, o: usize, link: usize, state: &mut [u8], way: &mut [u8])
     let word = saying(s, state, link);
     let earlier = way[link];
     way[link] = word;
-    tell(s, o, link, earlier, state);
+    come(s, o, link, earlier, state);
 }
 
 // A number is drawn, and the word of the link meets its fate.
@@ -100,11 +77,11 @@ pub fn visit(
         swap(s, o, link, state, way);
         return g;
     }
-    if fate < 5 {
-        let word = saying(s, state, link);
-        tell_twice(s, o, link, word, state);
+    let word = saying(s, state, link);
+    come(s, o, link, word, state);
+    if fate > 4 {
         return g;
     }
-    say(s, o, link, state);
+    come(s, o, link, word, state);
     g
 }

@@ -1,7 +1,8 @@
 // Rounds of words: first some with loss, then full ones.
 use crate::chance::chosen;
 use crate::chance::following;
-use crate::links::say;
+use crate::links::come;
+use crate::links::saying;
 use crate::links::visit;
 use mesh::Sizes;
 ghost use mathlib.Core.Path.{_≡_};
@@ -72,7 +73,8 @@ fn full_round(s: Sizes, o: usize, state: &mut [u8])
     ensures { λ _. ⌜ now (state .exit) ≡ fullRound s o (now (state .entry)) ⌝ }
 {
     for link in 0..links(s) {
-        say(s, o, link, state);
+        let word = saying(s, state, link);
+        come(s, o, link, word, state);
     }
 }
 

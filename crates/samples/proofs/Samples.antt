@@ -8,7 +8,7 @@ use Rattle.components.specs.Touch.{unsafeNodes, touch, grown, component}
 use Rattle.components.specs.Components.{lowest, lowestNodes, numberAmong, tableOf, recordOf, recordsOf, howMany}
 use Rattle.components.specs.Entry.{componentsCheck, componentsAnswer, tableWritten, rowWritten}
 use Rattle.routes.proofs.Computed.{computed as routes}
-use Rattle.field.specs.Computed.{computed as field}
+use Rattle.field.proofs.Computed.{computed as field}
 use Rattle.samples.specs.Questions.{reply}
 use Rattle.samples.specs.Rows.{Row, rows}
 

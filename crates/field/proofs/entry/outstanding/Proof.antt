@@ -4,9 +4,8 @@ use denote.Ref.{now}
 use lib.ListN.{length}
 use Rattle.mesh.specs.Answers.{_andThen_, checkOrientation}
 use Rattle.mesh.specs.declared.Answer.the-variants.{Done}
-use Rattle.mesh.proofs.Answers.{split, orientation-granted}
 use Rattle.field.specs.Entries.{checkState, soundAnswer, outstandingAnswer}
-use Rattle.field.proofs.Taken.{ready}
+use Rattle.field.proofs.Taken.{question-ready}
 use borrow.Author.Needs.{needs}
 use Rattle.field.proofs.entry.outstanding.Statement.{statement}
 use Rattle.field.proofs.entry.outstanding.Tie as tie
@@ -20,10 +19,7 @@ unfolding outstandingAnswer soundAnswer
 returns c = rw (sym (c .before .before .before .check-question .ensures) ∙ c .before .a .given .1)
 
 scan-requires : tie.Need-scan-requires
-scan-requires c κs =
-    let a = c .before .before .before .before .args in
-    let (e, f) = split (checkState (a .s) (length (now (a .state)))) (checkOrientation (a .orientation)) (in-order c) in
-    (ready (a .s) (now (a .state)) e, orientation-granted (a .orientation) f)
+scan-requires c κs = question-ready _ _ _ (in-order c)
 
 returns-2 : tie.Need-returns-2
 unfolding outstandingAnswer soundAnswer

@@ -97,12 +97,12 @@ returns c =
     let m = mapOf (a .s) (now (a .cells)) in
     let k = n .number .result in
     let e : k ≡ number (a .s) (a .p) = n .number .ensures .0 in
-    let own : c .own-by .result ≡ cond (faultyCell (getD (now (a .cells)) k 0)) 1 (quickRule (a .s) (a .o) (heard (z .put-axis3 .last .1 .0) k)) =
-    c .own-by .ensures ∙ (rw (c .before .before .before .faulty-cell .ensures, c .before .rule-byte .ensures)) in
+    let own : c .byte-by .result ≡ cond (faultyCell (getD (now (a .cells)) k 0)) 1 (quickRule (a .s) (a .o) (heard (z .put-axis3 .last .1 .0) k)) =
+    c .byte-by .ensures ∙ (rw (c .before .before .before .faulty-cell .ensures, c .before .rule-byte .ensures)) in
     rw (← e)
     (node-done (a .s) (now (a .cells)) (a .o) (a .p) (s .pre .2) k e (now (a .state)) (x .put-axis .last .1 .0) (y .put-axis2 .last .1 .0) (z .put-axis3 .last .1 .0)
     (x .put-axis .ensures m (placeOf (a .s) k)) (y .put-axis2 .ensures m (placeOf (a .s) k)) (z .put-axis3 .ensures m (placeOf (a .s) k))
-    (rw e (s .pre .4)) (n .number .ensures .1) (long-kept z) (c .own-by .result) own)
+    (rw e (s .pre .4)) (n .number .ensures .1) (long-kept z) (c .byte-by .result) own)
 
 pub put-node-spec : {M : Type 1} → statement M
 put-node-spec =

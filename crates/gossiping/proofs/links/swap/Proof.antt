@@ -11,7 +11,7 @@ returns c =
     let told = c .before .before in
     let word = told .before .before .before in
     let a = word .before .before .before .before .args in
-    (told .tell .ensures, ap (set (now (a .way)) (a .link)) (word .saying .ensures))
+    (told .come .ensures, ap (set (now (a .way)) (a .link)) (word .saying .ensures))
 
 pub swap-spec : {M : Type 1} → statement M
 swap-spec =

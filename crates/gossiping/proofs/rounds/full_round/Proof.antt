@@ -1,5 +1,5 @@
 -- `gossiping::rounds::full_round` meets its contract: what the speakers of the first links hold has come. Assumes nothing.
-use mathlib.Core.Path.{_≡_, refl, sym, ap, _∙_, subst⁻¹}
+use mathlib.Core.Path.{_≡_, refl, sym, ap, ap₂, _∙_, subst⁻¹}
 use mathlib.Core.List.{List}
 use Prim.Native.Nat.{ℕ, _-_, _≤_}
 use native.Mathlib.Omega.{arith}
@@ -7,6 +7,7 @@ use denote.Ref.{now}
 use lib.ListN.{length}
 use Rattle.gossiping.specs.Links.{links, saying, comes, Fit}
 use Rattle.gossiping.specs.Rounds.{tells, fullRound}
+use Rattle.gossiping.proofs.Coming.{ready}
 use Rattle.gossiping.proofs.Going.{tells-fit}
 use Rattle.gossiping.proofs.Counted.{none-told, tell-more}
 use Rattle.gossiping.proofs.rounds.full_round.Statement.{statement}
@@ -19,44 +20,37 @@ Inv-loop s o state₀ link₀ link-end state link =
 abbrev μ-loop : tie.MeasureT-loop
 μ-loop s o state₀ link₀ link-end state link = link-end - link
 
-links-requires : tie.Need-links-requires Inv-loop μ-loop
-links-requires c κs = c .before .pre .sized
-
-loop-holds : tie.Need-loop-holds Inv-loop μ-loop
-loop-holds c =
-    let a = c .before .before .args in
-    (omega arith, refl, none-told (a .s) (a .o) (now (a .state)))
-
-say-requires : tie.Need-say-requires Inv-loop μ-loop
-say-requires c κs =
-    let l = c .before .before in
+-- the state in a turn is sound
+fit : (l : tie.At-loop Inv-loop μ-loop) → let a = l .before .before .before .args in Fit (a .s) (a .o) (l .loop .state)
+fit l =
     let s = l .before .before .before in
     let a = s .args in
-    let fit = subst⁻¹ (Fit (a .s) (a .o)) (l .loop .inv .2) (tells-fit (a .s) (a .o) (now (a .state)) (s .pre) (l .loop .link)) in
-    (fit, omega (arith, l .before .links .ensures .0))
+    subst⁻¹ (Fit (a .s) (a .o)) (l .loop .inv .2) (tells-fit (a .s) (a .o) (now (a .state)) (s .pre) (l .loop .link))
 
-add-link : tie.Need-add-link Inv-loop μ-loop
-add-link c = omega (arith, c .before .before .before .before .before .before .links .ensures .2)
+saying-requires : tie.Need-saying-requires Inv-loop μ-loop
+saying-requires c κs =
+    let l = c .before .before in
+    (ready _ _ _ (fit l), omega (arith, l .before .links .ensures .0))
 
-loop-less : tie.Need-loop-less Inv-loop μ-loop
-loop-less c = omega arith
+come-requires : tie.Need-come-requires Inv-loop μ-loop
+come-requires c κs =
+    let l = c .before .before .before .before in
+    (fit l, omega (arith, l .before .links .ensures .0))
 
 loop-again : tie.Need-loop-again Inv-loop μ-loop
 loop-again c =
-    let said = c .before .before in
-    let l = said .before .before .before in
+    let told = c .before .before in
+    let word = told .before .before in
+    let l = word .before .before .before in
     let a = l .before .before .before .args in
-    let e = l .loop .inv .2 in
     let i = l .loop .link in (
       omega arith,
-      said .say .kept .1 .1 .1 .0 ∙ l .loop .inv .1,
-      said .say .ensures
-          ∙ ap (λ (t : List ℕ). comes (a .s) (a .o) i (saying (a .s) t i) t) e
+      told .come .kept .1 .1 .1 .1 .0 ∙ l .loop .inv .1,
+      told .come .ensures
+          ∙ ap (λ (w : ℕ). comes (a .s) (a .o) i w (l .loop .state)) (word .saying .ensures)
+          ∙ ap (λ (t : List ℕ). comes (a .s) (a .o) i (saying (a .s) t i) t) (l .loop .inv .2)
           ∙ sym (tell-more (a .s) (a .o) (now (a .state)) i),
     )
-
-same-length : tie.Need-same-length Inv-loop μ-loop
-same-length c = c .before .loop .inv .1
 
 returns : tie.Need-returns Inv-loop μ-loop
 unfolding fullRound
@@ -68,15 +62,7 @@ returns c =
 
 pub full-round-spec : {M : Type 1} → statement M
 full-round-spec =
-    tie.close
-    (tie.spec
-    Inv-loop
-    μ-loop
-    links-requires
-    loop-holds
-    say-requires
-    add-link
-    loop-less
-    loop-again
-    same-length
-    returns)
+    tie.close (tie.spec Inv-loop μ-loop (λ c κs. c .before .pre .sized)
+    (λ c. (omega arith, refl, none-told _ _ _)) saying-requires come-requires
+    (λ c. omega (arith, c .before .before .before .before .before .before .before .before .links .ensures .2)) (λ c. omega arith)
+    loop-again (λ c. c .before .loop .inv .1) returns)

@@ -1,13 +1,13 @@
--- `field::entry::check_state` meets its contract: each check is run where the one before it is granted. Assumes nothing.
+-- `field::checks::check_state` meets its contract: each check is run where the one before it is granted. Assumes nothing.
 use mathlib.Core.Path.{_≡_, _∙_, sym}
 use mathlib.Core.Bool.{true}
-use borrow.Author.Tests.{not-true, not-false, eq-eqb, ne-eqb}
+use borrow.Author.Tests.{not-true, not-false}
 use Rattle.mesh.specs.Mesh.{inRange}
 use Rattle.mesh.proofs.Answers.{sizes-of}
 use Rattle.field.specs.Entries.{checkState}
 use borrow.Author.Needs.{needs}
-use Rattle.field.proofs.entry.check_state.Statement.{statement}
-use Rattle.field.proofs.entry.check_state.Tie as tie
+use Rattle.field.proofs.checks.check_state.Statement.{statement}
+use Rattle.field.proofs.checks.check_state.Tie as tie
 
 sized : (c : tie.Else1) → inRange (c .before .before .args .s) ≡ true
 sized c = sym (c .before .in-range .ensures) ∙ not-false _ (c .if1 .left)
@@ -21,11 +21,8 @@ state-length-requires c κs = sizes-of (c .before .before .args .s) (sized c)
 
 returns-2 : tie.Need-returns-2
 unfolding checkState
-returns-2 c = rw (sized (c .before .before), ne-eqb _ _ (rw (c .before .state-length .ensures) at (c .if2 .taken)))
-
-returns-3 : tie.Need-returns-3
-unfolding checkState
-returns-3 c = rw (sized (c .before .before), eq-eqb _ _ (rw (c .before .state-length .ensures) at (c .if2 .left)))
+returns-2 c = let n = c .before in c .unless .ensures ∙ (rw (sized (n .before), n .state-length .ensures))
 
 pub check-state-spec : {M : Type 1} → statement M
-check-state-spec = tie.close (tie.spec (λ c κs. search needs) returns state-length-requires returns-2 returns-3)
+check-state-spec =
+    tie.close (tie.spec (λ c κs. search needs) returns state-length-requires (λ c κs. search needs) returns-2)
