@@ -1,4 +1,4 @@
-/* What the two fuzz programs share: the bytes that the fuzzer makes, taken one after another, and the buffers that are lent to a call. Each is
+/* What the fuzz programs share: the bytes that the fuzzer makes, taken one after another, and the buffers that are lent to a call. Each is
  * a block of its own with exactly its length, so that the address sanitizer stops a touch outside it. */
 #ifndef FUZZ_H
 #define FUZZ_H

@@ -9,7 +9,7 @@ use borrow.Author.Tests.{ltb-true, eqb-true}
 use lib.Dec.{ltb, leb, eqb}
 use lib.ListN.{length, length-take}
 use Rattle.mesh.specs.Tools.{between, bit, sum, count}
-use Rattle.mesh.specs.Mesh.{InRange, inRange, nodes, placeOf}
+use Rattle.mesh.specs.Mesh.{InRange, Inside, inRange, nodes, placeOf}
 use Rattle.mesh.specs.Cells.{mapOf, cellAt, mayEnd, badCell, firstBad, stateLength}
 use Rattle.mesh.specs.Marks.{isWord}
 use Rattle.mesh.specs.Answers.{refusalBad, answerBad, _andThen_, unless, numbered, answerValue, checkSizes, checkCells, checkMap, checkOrientation, checkNode, checkDirection, checkRoom}
@@ -17,6 +17,7 @@ use Rattle.mesh.proofs.Answers.{split, ok-of, sizes-granted, node-granted, map-
 use Rattle.mesh.proofs.Bits.{bit-le}
 use Rattle.mesh.proofs.Numbers.{nodes-le, place-in}
 use Rattle.mesh.specs.declared.Sizes.{Sizes}
+use Rattle.mesh.specs.declared.Place.{Place}
 use Rattle.mesh.specs.declared.Refusal.{Refusal}
 use Rattle.mesh.specs.declared.Refusal.the-variants.{BadSizes, BadLength, NoRoom, BadCell, BadNumber, Unsound, NoPair, NotHeld, FaultyEnd, NoPath, BadFile}
 use Rattle.mesh.specs.declared.Answer.{Answer}
@@ -36,7 +37,7 @@ use Rattle.field.specs.State.{mapIn, pair, says}
 use Rattle.field.specs.Sound.{sound, within}
 use Rattle.field.specs.Hear.{news, outstandingOn, outstanding}
 use Rattle.field.specs.Entries.{checkState, freshAnswer, soundAnswer, outstandingAnswer, checkWord, hearAnswer}
-use Rattle.dukthari.specs.Answers.{NumberedFits, VerdictFits, MapFits}
+use Rattle.dukthari.specs.Answers.{PlaceFits, NumberedFits, VerdictFits, MapFits}
 
 -- a check passes on the bad cell of the first refusal
 pub bad-then : (n : ℕ) (a b : Answer) → answerBad a ≤ n → (a ≡ Done → answerBad b ≤ n) → answerBad (a andThen b) ≤ n
@@ -68,6 +69,10 @@ bad-map S cells =
     let (s, l) = split (checkSizes S) (unless same BadLength) e in
     let f = eqb-true (length cells) (nodes S) (ok-of same BadLength l) in
     bad-cells S cells 65536 (omega (arith, nodes-le S (sizes-granted S s))))
+
+-- a place in the mesh is small
+pub inside-fits : (S : Sizes) (p : Place) → InRange S × Inside S p → PlaceFits p
+inside-fits S p (r, i) = (omega arith, omega arith, omega arith)
 
 -- a number that is granted is small, a refusal's bad cell too
 pub numbered-fits : (a : Answer) (n : ℕ) → answerBad a ≤ 65536 → (a ≡ Done → n ≤ 65536) → NumberedFits (numbered a n)

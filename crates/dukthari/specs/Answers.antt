@@ -5,6 +5,7 @@ use Rattle.mesh.specs.Answers.{refusalNo, refusalBad, answerNo, answerBad}
 use Rattle.mesh.specs.declared.Answer.{Answer}
 use Rattle.mesh.specs.declared.Numbered.{Numbered}
 use Rattle.mesh.specs.declared.Numbered.the-variants.{Number, NotNumbered}
+use Rattle.mesh.specs.declared.Place.{Place}
 use Rattle.mesh.specs.declared.Placed.{Placed}
 use Rattle.mesh.specs.declared.Placed.the-variants.{Found, NotPlaced}
 use Rattle.mesh.specs.declared.Next.the-variants.{At, Edge}
@@ -34,6 +35,10 @@ nodeFields (NotNumbered r) = record { refusal = refusalNo r; node = 0 }
 abbrev pub placeFields : Placed → PlaceAnswer
 placeFields (Found p) = record { refusal = 0; x = p .x; y = p .y; z = p .z }
 placeFields (NotPlaced r) = record { refusal = refusalNo r; x = 0; y = 0; z = 0 }
+
+-- it fits 32 bits
+abbrev pub PlaceFits : Place → Type 0
+PlaceFits p = (p .x ≤ 65536) × (p .y ≤ 65536) × (p .z ≤ 65536)
 
 -- "the next place, or says that the mesh ends there": `there` is 1 or 0
 abbrev pub stepFields : Stepped → StepAnswer

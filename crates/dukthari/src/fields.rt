@@ -2,6 +2,7 @@
 use crate::CountedAnswer;
 use crate::DoneAnswer;
 use crate::MapAnswer;
+use crate::PlaceAnswer;
 use crate::VerdictAnswer;
 use mapfile::MapRead;
 use mesh::Answer;
@@ -14,7 +15,9 @@ ghost use mathlib.Core.Path.{_≡_};
 ghost use Prim.Native.Nat.{_≤_};
 ghost use Rattle.mesh.specs.Mesh.{sizes, place};
 ghost use Rattle.mesh.specs.Answers.{refusalBad, answerBad};
-ghost use Rattle.dukthari.specs.Answers.{doneFields, NumberedFits, countedFields, VerdictFits, verdictFields, MapFits, mapFields};
+ghost use Rattle.mesh.specs.declared.Answer.the-variants.{Refused};
+ghost use Rattle.mesh.specs.declared.Placed.the-variants.{Found};
+ghost use Rattle.dukthari.specs.Answers.{PlaceFits, placeFields, doneFields, NumberedFits, countedFields, VerdictFits, verdictFields, MapFits, mapFields};
 
 pub fn sizes_of(w: u32, h: u32, d: u32) -> Sizes
     ensures { λ r. ⌜ r ≡ sizes w h d ⌝ }
@@ -36,24 +39,33 @@ pub fn place_at(x: u32, y: u32, z: u32) -> Place
     }
 }
 
-// The value that goes with a refusal: the first bad cell, or 0.
-pub fn refusal_bad(r: Refusal) -> u32
-    requires { ⌜ refusalBad r ≤ 65536 ⌝ }
-    ensures { λ n. ⌜ n ≡ refusalBad r ⌝ }
+// The fields of a place.
+pub fn placed(p: Place) -> PlaceAnswer
+    requires { ⌜ PlaceFits p ⌝ }
+    ensures { λ r. ⌜ r ≡ placeFields (Found p) ⌝ }
 {
-    match r {
-        Refusal::BadSizes => 0,
-        Refusal::BadLength => 0,
-        Refusal::NoRoom => 0,
-        Refusal::BadCell(k) => k as u32,
-        Refusal::BadNumber => 0,
-        Refusal::Unsound => 0,
-        Refusal::NoPair => 0,
-        Refusal::NotHeld => 0,
-        Refusal::FaultyEnd => 0,
-        Refusal::NoPath => 0,
-        Refusal::BadFile => 0,
+    let x = p.x as u32;
+    let y = p.y as u32;
+    let z = p.z as u32;
+    PlaceAnswer {
+        refusal: 0,
+        x,
+        y,
+        z,
     }
+}
+
+// The fields of a refusal: its number, and the first bad cell or 0.
+pub fn refused(r: Refusal) -> DoneAnswer
+    requires { ⌜ refusalBad r ≤ 65536 ⌝ }
+    ensures { λ a. ⌜ a ≡ doneFields (Refused r) ⌝ }
+{
+    let refusal = r.number();
+    let Refusal::BadCell(k) = r else {
+        return DoneAnswer { refusal, bad: 0 };
+    };
+    let bad = k as u32;
+    DoneAnswer { refusal, bad }
 }
 
 // The fields of an answer without a value.
@@ -63,10 +75,7 @@ pub fn done(a: Answer) -> DoneAnswer
 {
     match a {
         Answer::Done => DoneAnswer { refusal: 0, bad: 0 },
-        Answer::Refused(r) => DoneAnswer {
-            refusal: r.number(),
-            bad: refusal_bad(r),
-        },
+        Answer::Refused(r) => refused(r),
     }
 }
 
@@ -84,11 +93,14 @@ pub fn counted(a: Numbered) -> CountedAnswer
                 count,
             }
         }
-        Numbered::NotNumbered(r) => CountedAnswer {
-            refusal: r.number(),
-            bad: refusal_bad(r),
-            count: 0,
-        },
+        Numbered::NotNumbered(r) => {
+            let a = refused(r);
+            CountedAnswer {
+                refusal: a.refusal,
+                bad: a.bad,
+                count: 0,
+            }
+        }
     }
 }
 
@@ -107,12 +119,15 @@ pub fn judged(a: Verdict) -> VerdictAnswer
                 offered: offered as u32,
             }
         }
-        Verdict::NotGranted(r) => VerdictAnswer {
-            refusal: r.number(),
-            bad: refusal_bad(r),
-            hops: 0,
-            offered: 0,
-        },
+        Verdict::NotGranted(r) => {
+            let a = refused(r);
+            VerdictAnswer {
+                refusal: a.refusal,
+                bad: a.bad,
+                hops: 0,
+                offered: 0,
+            }
+        }
     }
 }
 
@@ -134,12 +149,15 @@ pub fn read(a: MapRead) -> MapAnswer
                 d,
             }
         }
-        MapRead::NotRead(r) => MapAnswer {
-            refusal: r.number(),
-            bad: refusal_bad(r),
-            w: 0,
-            h: 0,
-            d: 0,
-        },
+        MapRead::NotRead(r) => {
+            let a = refused(r);
+            MapAnswer {
+                refusal: a.refusal,
+                bad: a.bad,
+                w: 0,
+                h: 0,
+                d: 0,
+            }
+        }
     }
 }

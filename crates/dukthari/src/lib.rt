@@ -3,6 +3,7 @@ use crate::fields::counted;
 use crate::fields::done;
 use crate::fields::judged;
 use crate::fields::place_at;
+use crate::fields::placed;
 use crate::fields::sizes_of;
 use crate::grouping::compute;
 use components::Component;
@@ -111,17 +112,7 @@ pub extern "C" fn dk_place(w: u32, h: u32, d: u32, node: u32) -> PlaceAnswer
 {
     let a = mesh::entries::place_of(sizes_of(w, h, d), node as usize);
     match a {
-        Placed::Found(p) => {
-            let x = p.x as u32;
-            let y = p.y as u32;
-            let z = p.z as u32;
-            PlaceAnswer {
-                refusal: 0,
-                x,
-                y,
-                z,
-            }
-        }
+        Placed::Found(p) => placed(p),
         Placed::NotPlaced(r) => PlaceAnswer {
             refusal: r.number(),
             x: 0,
@@ -148,15 +139,13 @@ pub extern "C" fn dk_step(
     match a {
         Stepped::Led(n) => match n {
             Next::At(q) => {
-                let x = q.x as u32;
-                let y = q.y as u32;
-                let z = q.z as u32;
+                let p = placed(q);
                 StepAnswer {
                     refusal: 0,
                     there: 1,
-                    x,
-                    y,
-                    z,
+                    x: p.x,
+                    y: p.y,
+                    z: p.z,
                 }
             }
             Next::Edge => StepAnswer {

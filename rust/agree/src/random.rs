@@ -1,10 +1,4 @@
 //! A generator of numbers that look random and are the same in each run with the same SEED in the environment (none: 0).
-use std::sync::OnceLock;
-
-fn run() -> u64 {
-    static SEED: OnceLock<u64> = OnceLock::new();
-    *SEED.get_or_init(|| std::env::var("SEED").map_or(0, |word| word.parse().expect("SEED is a number")))
-}
 
 pub struct Random {
     state: u64,
@@ -12,7 +6,8 @@ pub struct Random {
 
 impl Random {
     pub fn new(seed: u64) -> Random {
-        Random { state: seed.wrapping_add(run().wrapping_mul(0xD134_2543_DE82_EF95)) }
+        let run: u64 = std::env::var("SEED").map_or(0, |word| word.parse().expect("SEED is a number"));
+        Random { state: seed.wrapping_add(run.wrapping_mul(0xD134_2543_DE82_EF95)) }
     }
 
     /// SplitMix64.

@@ -143,3 +143,26 @@ pub fn audit(file: &[u8], log: &[u8]) -> String {
         .unwrap();
     text
 }
+
+/// For a program in C: whether a page is that for a map file and a log. Where it is not, the first line that differs is printed.
+///
+/// # Safety
+///
+/// Each pointer leads to so many bytes.
+#[no_mangle]
+pub unsafe extern "C" fn oracle_page(
+    map: *const u8,
+    map_len: usize,
+    log: *const u8,
+    log_len: usize,
+    page: *const u8,
+    page_len: usize,
+) -> bool {
+    let bytes = |from: *const u8, count| if count == 0 { &[][..] } else { std::slice::from_raw_parts(from, count) };
+    let page = String::from_utf8_lossy(bytes(page, page_len));
+    let expected = audit(bytes(map, map_len), bytes(log, log_len));
+    if let Some((line, want)) = page.lines().zip(expected.lines()).find(|(line, want)| line != want) {
+        println!("printed: {line}\nnot: {want}");
+    }
+    page == expected
+}

@@ -1,12 +1,13 @@
 -- `dukthari::dk_step` meets its contract: the answer is taken apart by its cases, and a place that a step leads to fits. Assumes nothing.
 use mathlib.Core.Path.{_≡_, _∙_, sym, ap}
-use native.Mathlib.Omega.{arith}
 use borrow.Author.Needs.{needs}
-use Rattle.mesh.specs.Mesh.{sizes, place, InRange, Inside}
+use Rattle.mesh.specs.Mesh.{sizes, place}
 use Rattle.mesh.specs.Answers.{stepAnswer}
 use Rattle.mesh.proofs.Granted.{step-fits}
 use Rattle.mesh.specs.declared.Stepped.the-variants.{Led}
+use Rattle.mesh.specs.declared.Next.the-variants.{At}
 use Rattle.dukthari.specs.Answers.{stepFields}
+use Rattle.dukthari.proofs.Small.{inside-fits}
 use Rattle.dukthari.proofs.dk_step.Statement.{statement}
 use Rattle.dukthari.proofs.dk_step.Tie as tie
 
@@ -21,22 +22,16 @@ led : (c : tie.After-known-told) →
     stepAnswer (sizes (a .w) (a .h) (a .d)) (place (a .x) (a .y) (a .z)) (a .direction) ≡ Led (c .before .a .given .0 .0)
 led c = sym (answered (c .before .before .before)) ∙ c .before .a .given .1
 
-fits : (c : tie.After-struct-known) →
-    let a = c .before .before .before .before .before .before .before .before .before .before .args in
-    InRange (sizes (a .w) (a .h) (a .d)) × Inside (sizes (a .w) (a .h) (a .d)) (c .before .before .n .given .0 .0)
-fits c = step-fits _ _ _ _ (led (c .before .before .before .before) ∙ ap Led (c .before .before .n .given .1))
+led-on : (c : tie.After-known-told2) →
+    let a = c .before .before .before .before .before .before .before .before .before .args in
+    stepAnswer (sizes (a .w) (a .h) (a .d)) (place (a .x) (a .y) (a .z)) (a .direction) ≡ Led (At (c .before .n .given .0 .0))
+led-on c = led (c .before .before .before) ∙ ap Led (c .before .n .given .1)
 
-cast-x : tie.Need-cast-x
-cast-x c = let (r, i) = fits c in omega arith
-
-cast-y : tie.Need-cast-y
-cast-y c = let (r, i) = fits (c .before) in omega arith
-
-cast-z : tie.Need-cast-z
-cast-z c = let (r, i) = fits (c .before .before) in omega arith
+placed-requires : tie.Need-placed-requires
+placed-requires c κs = inside-fits _ _ (step-fits _ _ _ _ (led-on c))
 
 returns : tie.Need-returns
-returns c = ap stepFields (sym (led (c .before .before .before .before .before .before) ∙ ap Led (c .before .before .before .before .n .given .1)))
+returns c = rw (c .placed .ensures) (ap stepFields (sym (led-on (c .before))))
 
 returns-2 : tie.Need-returns-2
 returns-2 c = ap stepFields (sym (led (c .before .before) ∙ ap Led (c .enum-told .given .1)))
@@ -47,5 +42,5 @@ returns-3 c = rw (c .number .ensures) (ap stepFields (sym (c .before .before .a2
 pub dk-step-spec : {M : Type 1} → statement M
 dk-step-spec =
     tie.close (tie.spec (λ c κs. search needs) (λ c κs. search needs) (λ c κs. search needs) (λ c. search needs)
-    (λ c. search needs) cast-x cast-y cast-z (λ c. search needs) (λ c. search needs) (λ c κs. search needs) returns
+    (λ c. search needs) placed-requires (λ c. search needs) (λ c. search needs) (λ c κs. search needs) returns
     returns-2 returns-3)

@@ -2,7 +2,6 @@
 use native.Mathlib.Omega.{arith}
 use mathlib.Core.Path.{subst}
 use Rattle.dukthari.specs.Answers.{NumberedFits}
-use Rattle.mesh.specs.declared.Numbered.{Numbered}
 use borrow.Author.Needs.{needs}
 use Rattle.dukthari.proofs.fields.counted.Statement.{statement}
 use Rattle.dukthari.proofs.fields.counted.Tie as tie
@@ -10,16 +9,15 @@ use Rattle.dukthari.proofs.fields.counted.Tie as tie
 cast-count : tie.Need-cast-count
 cast-count c = let h = subst NumberedFits (c .before .a .given .1) (c .before .before .before .pre) in omega arith
 
-refusal-bad-requires : tie.Need-refusal-bad-requires
-refusal-bad-requires c κs = subst NumberedFits (c .before .before .a2 .given .1) (c .before .before .before .before .pre)
+refused-requires : tie.Need-refused-requires
+refused-requires c κs = subst NumberedFits (c .before .a2 .given .1) (c .before .before .before .pre)
 
 returns : tie.Need-returns
 returns c = rw (c .before .a .given .1)
 
 returns-2 : tie.Need-returns-2
-returns-2 c = rw (c .before .before .before .a2 .given .1, c .refusal-bad .ensures, c .before .number .ensures)
+returns-2 c = rw (c .before .before .a2 .given .1, c .refused .ensures)
 
 pub counted-spec : {M : Type 1} → statement M
 counted-spec =
-    tie.close (tie.spec (λ c. search needs) cast-count (λ c. search needs) (λ c κs. search needs) refusal-bad-requires
-    returns returns-2)
+    tie.close (tie.spec (λ c. search needs) cast-count (λ c. search needs) refused-requires returns returns-2)

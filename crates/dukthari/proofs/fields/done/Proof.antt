@@ -7,16 +7,14 @@ use borrow.Author.Needs.{needs}
 use Rattle.dukthari.proofs.fields.done.Statement.{statement}
 use Rattle.dukthari.proofs.fields.done.Tie as tie
 
-refusal-bad-requires : tie.Need-refusal-bad-requires
-refusal-bad-requires c κs = subst (λ (a : Answer). answerBad a ≤ 65536) (c .before .before .a .given .1) (c .before .before .before .before .pre)
+refused-requires : tie.Need-refused-requires
+refused-requires c κs = subst (λ (a : Answer). answerBad a ≤ 65536) (c .before .a .given .1) (c .before .before .before .pre)
 
 returns : tie.Need-returns
 returns c = rw (c .enum-told .given .1)
 
 returns-2 : tie.Need-returns-2
-returns-2 c = rw (c .before .before .before .a .given .1, c .refusal-bad .ensures, c .before .number .ensures)
+returns-2 c = rw (c .before .before .a .given .1, c .refused .ensures)
 
 pub done-spec : {M : Type 1} → statement M
-done-spec =
-    tie.close (tie.spec (λ c. search needs) (λ c. search needs) (λ c κs. search needs) refusal-bad-requires returns
-    returns-2)
+done-spec = tie.close (tie.spec (λ c. search needs) (λ c. search needs) refused-requires returns returns-2)

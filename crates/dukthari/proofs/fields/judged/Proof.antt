@@ -9,16 +9,15 @@ use Rattle.dukthari.proofs.fields.judged.Tie as tie
 cast-hops : tie.Need-cast-hops
 cast-hops c = let h = subst VerdictFits (c .before .a .given .1) (c .before .before .before .pre) in omega arith
 
-refusal-bad-requires : tie.Need-refusal-bad-requires
-refusal-bad-requires c κs = subst VerdictFits (c .before .before .a2 .given .1) (c .before .before .before .before .pre)
+refused-requires : tie.Need-refused-requires
+refused-requires c κs = subst VerdictFits (c .before .a2 .given .1) (c .before .before .before .pre)
 
 returns : tie.Need-returns
 returns c = rw (c .before .a .given .1)
 
 returns-2 : tie.Need-returns-2
-returns-2 c = rw (c .before .before .before .a2 .given .1, c .refusal-bad .ensures, c .before .number .ensures)
+returns-2 c = rw (c .before .before .a2 .given .1, c .refused .ensures)
 
 pub judged-spec : {M : Type 1} → statement M
 judged-spec =
-    tie.close (tie.spec (λ c. search needs) cast-hops (λ c. search needs) (λ c. search needs) (λ c κs. search needs)
-    refusal-bad-requires returns returns-2)
+    tie.close (tie.spec (λ c. search needs) cast-hops (λ c. search needs) (λ c. search needs) refused-requires returns returns-2)

@@ -15,16 +15,15 @@ cast-h c = let h = subst MapFits (c .before .before .before .a .given .1) (c .be
 cast-d : tie.Need-cast-d
 cast-d c = let h = subst MapFits (c .before .before .before .before .a .given .1) (c .before .before .before .before .before .before .pre) in omega (arith, h .d-hi)
 
-refusal-bad-requires : tie.Need-refusal-bad-requires
-refusal-bad-requires c κs = subst MapFits (c .before .before .a2 .given .1) (c .before .before .before .before .pre)
+refused-requires : tie.Need-refused-requires
+refused-requires c κs = subst MapFits (c .before .a2 .given .1) (c .before .before .before .pre)
 
 returns : tie.Need-returns
 returns c = rw (c .before .before .before .before .a .given .1)
 
 returns-2 : tie.Need-returns-2
-returns-2 c = rw (c .before .before .before .a2 .given .1, c .refusal-bad .ensures, c .before .number .ensures)
+returns-2 c = rw (c .before .before .a2 .given .1, c .refused .ensures)
 
 pub read-spec : {M : Type 1} → statement M
 read-spec =
-    tie.close (tie.spec (λ c. search needs) cast-w cast-h cast-d (λ c. search needs) (λ c κs. search needs)
-    refusal-bad-requires returns returns-2)
+    tie.close (tie.spec (λ c. search needs) cast-w cast-h cast-d (λ c. search needs) refused-requires returns returns-2)
