@@ -41,4 +41,5 @@ returns c =
 pub compute-spec : {M : Type 1} → statement M
 compute-spec =
     tie.close (tie.spec (λ c κs. search needs) (λ c. search needs) (λ c κs. search needs) (λ c. search needs)
-    (λ c κs. search needs) label-requires (λ c. search needs) settle-requires (λ c κs. search needs) (λ c. search needs) returns)
+    (λ c κs. search needs) label-requires (λ c. search needs) settle-requires (λ c κs. search needs) (λ c. search needs)
+    returns)

@@ -47,17 +47,8 @@ add-at-end c = let l = c .before .before .before .before .before .before .pre .4
 loop2-holds : tie.Need-loop2-holds Inv-loop2 μ-loop2 Inv-loop μ-loop
 loop2-holds c = let l = c .before .before .before .before .before .before .pre .4 (omega arith) in (omega arith, omega (arith, c .before .before .before .before .before .before .pre .3), λ g T. T)
 
-mul-if1 : tie.Need-mul-if1 Inv-loop2 μ-loop2 Inv-loop μ-loop
-mul-if1 c = omega arith
-
 slice-read-if1 : tie.Need-slice-read-if1 Inv-loop2 μ-loop2 Inv-loop μ-loop
 slice-read-if1 c = omega (arith, known (c .before .before) .labelled .size)
-
-add-at : tie.Need-add-at Inv-loop2 μ-loop2 Inv-loop μ-loop
-add-at c = omega arith
-
-loop2-less : tie.Need-loop2-less Inv-loop2 μ-loop2 Inv-loop μ-loop
-loop2-less c = omega arith
 
 loop2-again : tie.Need-loop2-again Inv-loop2 μ-loop2 Inv-loop μ-loop
 loop2-again c = let l = c .before .before .before .loop2 in (omega arith, l .inv .1, λ g T. turn-past (l .inv .2 g T) (c .if1 .taken))
@@ -92,20 +83,8 @@ array-set-from-records c = few-yet (known (c .before .before .before .before .be
 add-n : tie.Need-add-n Inv-loop2 μ-loop2 Inv-loop μ-loop
 add-n c = omega (arith, few-yet (known (c .before .before .before .before .before .before .before .before .before .before .before .before)) (c .before .before .before .before .before .before .before .before .before .if1 .left))
 
-add-at-2 : tie.Need-add-at-2 Inv-loop2 μ-loop2 Inv-loop μ-loop
-add-at-2 c = omega arith
-
-loop2-less-2 : tie.Need-loop2-less-2 Inv-loop2 μ-loop2 Inv-loop μ-loop
-loop2-less-2 c = omega arith
-
 loop2-again-2 : tie.Need-loop2-again-2 Inv-loop2 μ-loop2 Inv-loop μ-loop
 loop2-again-2 c = let v = c .before .before .before .before .before in let l = v .before .before .before .before .before .before .before .loop2 in (omega arith, l .inv .1, λ g T. turn-more (l .inv .2 g T) (v .before .before .before .before .if1 .left) (v .flood .kept .0) (v .flood .kept .1 .0) (v .flood .ensures) (c .record-of .result) (c .record-of .ensures .0) (c .record-of .ensures .1))
-
-add-z : tie.Need-add-z Inv-loop2 μ-loop2 Inv-loop μ-loop
-add-z c = omega arith
-
-loop-less : tie.Need-loop-less Inv-loop2 μ-loop2 Inv-loop μ-loop
-loop-less c = omega arith
 
 loop-again : tie.Need-loop-again Inv-loop2 μ-loop2 Inv-loop μ-loop
 loop-again c = let l = c .before .loop2 in let s = c .before .before .before .before .before .before .before .before in (omega arith, turn-layer (known (c .before)) (s .args .h) (s .args .d) _ (s .pre .2) (s .pre .4 (omega arith)) (omega arith))
@@ -118,9 +97,9 @@ returns c = let l = c .before .loop in let s = c .before .before .before .before
 
 pub label-spec : {M : Type 1} → statement M
 label-spec =
-    tie.close
-    (tie.spec Inv-loop2 μ-loop2 Inv-loop μ-loop (λ c κs. search needs) (λ c κs. search needs) (λ c κs. search needs)
-    loop-holds mul-from add-from mul-at-end add-at-end loop2-holds mul-if1 slice-read-if1 add-at loop2-less loop2-again
-    slice-aggregate-flood slice-aggregate-flood-2 add-flood cast-flood flood-requires slice-aggregate-record-of
-    record-of-requires mul-records array-set-from-records add-n add-at-2 loop2-less-2 loop2-again-2 add-z loop-less
-    loop-again same-length returns)
+    tie.close (tie.spec Inv-loop2 μ-loop2 Inv-loop μ-loop (λ c κs. search needs) (λ c κs. search needs)
+    (λ c κs. search needs) loop-holds mul-from add-from mul-at-end add-at-end loop2-holds (λ c. omega arith)
+    slice-read-if1 (λ c. omega arith) (λ c. omega arith) loop2-again slice-aggregate-flood slice-aggregate-flood-2
+    add-flood cast-flood flood-requires slice-aggregate-record-of record-of-requires mul-records array-set-from-records
+    add-n (λ c. omega arith) (λ c. omega arith) loop2-again-2 (λ c. omega arith) (λ c. omega arith) loop-again
+    same-length returns)
