@@ -17,7 +17,7 @@ use Rattle.components.specs.Grid.{gridSize, unseen, Spot, Beside, Linked
 use Rattle.components.specs.Flood.{Flooded}
 use Rattle.components.specs.Label.{leastOf, greatestOf, Ranged, Spans, Recorded, Untouched, Labelled}
 use Rattle.components.specs.declared.Component.{Component}
-use Rattle.components.proofs.Around.{spot-le, beside-sym}
+use Rattle.components.proofs.Around.{beside-sym}
 use Rattle.components.proofs.Counts.{sum-same, same-or-not}
 use Rattle.components.proofs.Boxes.{Boxed}
 
@@ -35,13 +35,13 @@ label-none g row s un =
     }
 
 module _ (g : List ℕ) (k n : ℕ) (h : List ℕ) (row : List Component) (L : Labelled g k n h row) where
-  -- a place that is not unseen is passed
-  pub label-past : (getD h k 0 ≡ unseen → ⊥) → Labelled g (k + 1) n h row
-  label-past not-here =
+  -- places that are not unseen are passed
+  pub label-on : (m : ℕ) → k ≤ m → ((j : ℕ) → k ≤ j → j < m → getD h j 0 ≡ unseen → ⊥) → Labelled g m n h row
+  label-on m le none =
       record {
         size = L .size;
         kept = L .kept;
-        passed = λ j l. elim (eq-or-lt-of-le (le-of-suc-le-suc (rw add-one at l))) [ inl e ↦ λ u. not-here (rw e at u) | inr w ↦ L .passed j w ];
+        passed = λ j l u. elim (tried (ltb j k)) [ inl t ↦ L .passed j (ltb→lt j k t) u | inr t ↦ none j (nltb→le j k t) l u ];
         closed = L .closed;
         linked = λ i l. let (a, la, e, f) = L .linked i l in (a, omega arith, e, f);
         rising = L .rising;
@@ -62,19 +62,6 @@ module _ (g : List ℕ) (k n : ℕ) (h : List ℕ) (row : List Component) (L : L
 
     pub unseen-spot : (j : ℕ) → getD h j 0 ≡ unseen → Spot j
     unseen-spot j u = elim (un j) [ inl z ↦ absurd (omega (arith, was-unseen j u)) | inr z ↦ z .1 ]
-
-    -- no place above the last spot is unseen
-    pub label-end : k ≡ 4913 → Labelled g gridSize n h row
-    label-end e =
-        record {
-          size = L .size;
-          kept = L .kept;
-          passed = λ j l u. L .passed j (omega (arith, spot-le j (unseen-spot j u))) u;
-          closed = L .closed;
-          linked = λ i l. let (a, la, f, w) = L .linked i l in (a, omega arith, f, w);
-          rising = L .rising;
-          recorded = L .recorded;
-        }
 
     relinked : {a b : ℕ} → Linked h a b → Linked g a b
     relinked here = here

@@ -12,6 +12,7 @@ pub mod Spots
 pub mod Boxes
 pub mod Labels
 pub mod Few
+pub mod Turns
 pub mod Nodes
 pub mod Outcomes
 pub mod Held

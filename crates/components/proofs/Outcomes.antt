@@ -30,11 +30,11 @@ use Rattle.components.specs.Components.{tableOf, recordsOf, howMany}
 use Rattle.components.specs.Entry.{componentsCheck, componentsAnswer, componentsTable, componentsRow, tableWritten, rowWritten}
 use Rattle.components.specs.Grid.{gridSize, spot, gridAt}
 use Rattle.components.specs.Layout.{Copied}
-use Rattle.components.specs.Label.{Untouched, Labelled}
+use Rattle.components.specs.Label.{Untouched, Within, Labelled}
 use Rattle.components.specs.Outcome.{Gridded, roomCheck, Settled, storedOf, Computed}
 use Rattle.components.specs.declared.Component.{Component}
 use Rattle.components.specs.declared.Outcome.{Outcome}
-use Rattle.components.proofs.Spots.{untouched}
+use Rattle.components.proofs.Spots.{untouched, within}
 use Rattle.components.proofs.Nodes.{numbers, as-defined}
 
 -- what is written to the front of a list, the rest of which stays
@@ -156,6 +156,13 @@ module _ (S : Sizes) (cells : List ℕ) (o : ℕ) where
   pub laid-untouched : (a : Answer) → marksAnswer S cells o 4096 ≡ a → (g : List ℕ) → Gridded S cells o a g → Untouched g
   laid-untouched Done done g is = untouched S (sized S cells o [] 0 done) (marksOf (mapOf S cells) o) g (marks-length (mapOf S cells) o) is
   laid-untouched (Refused x) e g is = λ j. inl (is j)
+
+  pub laid-within : (a : Answer) → marksAnswer S cells o 4096 ≡ a → (g : List ℕ) → Gridded S cells o a g
+      → Within (S .h) (answerValue a (S .d)) g × (answerValue a (S .d) ≤ 16) × (0 < answerValue a (S .d) → S .h ≤ 16)
+  laid-within Done done g is =
+      let r = sized S cells o [] 0 done in
+      (within S r (marksOf (mapOf S cells) o) g (marks-length (mapOf S cells) o) is, r .d-hi, λ _. r .h-hi)
+  laid-within (Refused x) e g is = (λ j u. absurd (omega (arith, is j)), omega arith, λ h. absurd (omega arith))
 
   pub all-computed : (room : ℕ) (old new : List ℕ) (a : Answer) → marksAnswer S cells o 4096 ≡ a → (g h : List ℕ) (n : ℕ) (row : List Component)
       → Gridded S cells o a g → Labelled g gridSize n h row → length row ≡ 1024 → n ≤ 1024

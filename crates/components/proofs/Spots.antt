@@ -17,7 +17,7 @@ use Rattle.mesh.specs.declared.Sizes.{Sizes}
 use Rattle.mesh.specs.declared.Place.{Place}
 use Rattle.components.specs.Touch.{unsafe, touching}
 use Rattle.components.specs.Grid.{gridSize, unseen, spot, placeAt, shade, gridAt, Spot, Beside}
-use Rattle.components.specs.Label.{Untouched}
+use Rattle.components.specs.Label.{Untouched, Within}
 use Rattle.components.proofs.Joined.{unsafe-lt}
 use Rattle.components.proofs.Around.{spot-at, at-spot, touch-beside, beside-touch}
 use Rattle.components.proofs.Layouts.{grid-none, grid-at}
@@ -119,6 +119,13 @@ module _ (S : Sizes) (r : InRange S) where
       where
         marked : (k : ℕ) → k < nodes S → getD g (at S k) 0 ≡ unseen → T (unsafe marks k)
         marked k l e = elim (tried (unsafe marks k)) [ inl t ↦ t | inr t ↦ absurd (omega (arith, safe-spot k l t)) ]
+
+    pub within : Within (S .h) (S .d) g
+    within j u =
+        let (k, t, e) = unseen-node j u in
+        let l = unsafe-node k t in
+        let p = place-at k l in
+        rw (e, ap (λ (p : Place). p .y) p, ap (λ (p : Place). p .z) p) (place-in S k l .y-in, place-in S k l .z-in)
 
     pub untouched : Untouched g
     untouched j = elim (of-node j) [

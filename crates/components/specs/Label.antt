@@ -2,7 +2,7 @@
 use mathlib.Core.List.{List}
 use mathlib.Core.Logic.{_⊎_}
 use mathlib.Core.Path.{_≡_}
-use Prim.Native.Nat.{ℕ, suc, _+_, _<_, _≤_, min, max}
+use Prim.Native.Nat.{ℕ, suc, _+_, _-_, _/_, _%_, _<_, _≤_, min, max}
 use lib.ListN.{length, getD}
 use Rattle.mesh.specs.Mesh.{Axis, X, Y, Z, on}
 use Rattle.mesh.specs.declared.Place.{Place}
@@ -56,6 +56,10 @@ pub record Recorded (h : List ℕ) (m : ℕ) (c : Component) : Type 0 where
 -- a grid before the flood
 abbrev pub Untouched : List ℕ → Type 0
 Untouched g = (j : ℕ) → (getD g j 0 ≡ 0) ⊎ ((getD g j 0 ≡ unseen) × Spot j)
+
+-- the unsafe places lie in the first h rows of the first d layers
+abbrev pub Within : ℕ → ℕ → List ℕ → Type 0
+Within h d g = (j : ℕ) → getD g j 0 ≡ unseen → ((j - 307) / 17 % 17 < h) × ((j - 307) / 289 < d)
 
 -- The places below k have been passed, and n components have been found: g was the grid before, h is the grid now.
 pub record Labelled (g : List ℕ) (k n : ℕ) (h : List ℕ) (row : List Component) : Type 0 where

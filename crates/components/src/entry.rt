@@ -13,6 +13,7 @@ ghost use Prim.Native.Nat.{ℕ};
 ghost use lib.ListN.{length, getD};
 ghost use Rattle.mesh.specs.Mesh.{InRange};
 ghost use Rattle.mesh.specs.declared.Answer.the-variants.{Done};
+ghost use Rattle.mesh.specs.Answers.{answerValue};
 ghost use Rattle.marks.specs.Entry.{marksAnswer};
 ghost use Rattle.components.specs.Grid.{gridSize};
 ghost use Rattle.components.specs.Outcome.{Gridded, Settled, storedOf, Computed};
@@ -42,6 +43,16 @@ fn grid_of(s: Sizes, cells: &[u8], orientation: usize, grid: &mut [u16]) -> Answ
     let n = s.nodes();
     lay(s, &marked[..n], grid);
     a
+}
+
+// How many layers are to be looked through: none on a refusal.
+fn layers(checked: Answer, d: usize) -> usize
+    ensures { λ r. ⌜ r ≡ answerValue checked d ⌝ }
+{
+    match checked {
+        Answer::Done => d,
+        Answer::Refused(r) => 0,
+    }
 }
 
 // The table, if the map is in order and there is room for it and for as many records as there are: refusal 3.
@@ -92,7 +103,7 @@ pub fn compute(
 {
     let mut grid = blank_grid();
     let a = grid_of(s, cells, orientation, &mut grid);
-    let found = label(&mut grid);
+    let found = label(&mut grid, s.h, layers(a, s.d));
     let answer = settle(s, a, &grid, table, found.count, room);
     let count = stored(answer);
     let records = found.records;

@@ -105,19 +105,5 @@ returns c =
 
 pub flood-spec : {M : Type 1} → statement M
 flood-spec =
-    tie.close
-    (tie.spec
-    Inv-loop
-    μ-loop
-    visit-requires
-    loop-holds
-    mul-from
-    slice-read-from
-    cast-from
-    spread-requires
-    add-head
-    loop-less
-    loop-again
-    same-length
-    same-length-2
-    returns)
+    tie.close (tie.spec Inv-loop μ-loop visit-requires loop-holds mul-from slice-read-from cast-from spread-requires
+    add-head loop-less loop-again same-length same-length-2 returns)

@@ -27,9 +27,6 @@ loop-holds c =
     let a = c .before .before .before .args in
     (omega arith, p .0, spread-none (a .grid .now) (a .queue .now) (a .tail) (a .from) (a .number) (p .3))
 
-mul-visit : tie.Need-mul-visit Inv-loop μ-loop
-mul-visit c = omega arith
-
 shared-slice-read-visit : tie.Need-shared-slice-read-visit Inv-loop μ-loop
 shared-slice-read-visit c = omega (arith, ap length (c .before .before .before .before .before .before .before .before .pre .4))
 
@@ -54,12 +51,6 @@ visit-requires c κs =
     let i = c .before .before .before .before .loop .inv in
     let p = c .before .before .before .before .before .before .before .before .pre in
     (i .1, led c .0, room (i .1) (p .2) (led c .0) (c .before .before .before .loop-test .taken) (led c .1) (i .2))
-
-add-o : tie.Need-add-o Inv-loop μ-loop
-add-o c = omega arith
-
-loop-less : tie.Need-loop-less Inv-loop μ-loop
-loop-less c = omega arith
 
 loop-again : tie.Need-loop-again Inv-loop μ-loop
 loop-again c =
@@ -86,19 +77,5 @@ returns c =
 
 pub spread-spec : {M : Type 1} → statement M
 spread-spec =
-    tie.close
-    (tie.spec
-    Inv-loop
-    μ-loop
-    sub-base
-    loop-holds
-    mul-visit
-    shared-slice-read-visit
-    add-visit
-    visit-requires
-    add-o
-    loop-less
-    loop-again
-    same-length
-    same-length-2
-    returns)
+    tie.close (tie.spec Inv-loop μ-loop sub-base loop-holds (λ c. omega arith) shared-slice-read-visit add-visit
+    visit-requires (λ c. omega arith) (λ c. omega arith) loop-again same-length same-length-2 returns)

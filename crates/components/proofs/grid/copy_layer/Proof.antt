@@ -46,12 +46,6 @@ copy-row-requires c κs =
       omega (arith, c .row-spot .ensures, s .pre .2, r .w-hi, r .h-hi, r .d-hi, s .pre .1),
     )
 
-add-y : tie.Need-add-y Inv-loop μ-loop
-add-y c = omega arith
-
-loop-less : tie.Need-loop-less Inv-loop μ-loop
-loop-less c = omega arith
-
 loop-again : tie.Need-loop-again Inv-loop μ-loop
 loop-again c =
     let v = c .before .before in
@@ -77,16 +71,5 @@ returns c =
 
 pub copy-layer-spec : {M : Type 1} → statement M
 copy-layer-spec =
-    tie.close
-    (tie.spec
-    Inv-loop
-    μ-loop
-    loop-holds
-    number-requires
-    row-spot-requires
-    copy-row-requires
-    add-y
-    loop-less
-    loop-again
-    same-length
-    returns)
+    tie.close (tie.spec Inv-loop μ-loop loop-holds number-requires row-spot-requires copy-row-requires
+    (λ c. omega arith) (λ c. omega arith) loop-again same-length returns)

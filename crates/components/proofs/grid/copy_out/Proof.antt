@@ -25,12 +25,6 @@ copy-layer-requires c κs =
     let p = c .before .before .before .before .before .pre in
     (p .0, c .before .loop-test .taken, p .1, omega (arith, p .2, c .before .before .loop .inv .1))
 
-add-z : tie.Need-add-z Inv-loop μ-loop
-add-z c = omega arith
-
-loop-less : tie.Need-loop-less Inv-loop μ-loop
-loop-less c = omega arith
-
 loop-again : tie.Need-loop-again Inv-loop μ-loop
 loop-again c =
     let v = c .before .before .copy-layer in
@@ -48,14 +42,5 @@ returns c =
 
 pub copy-out-spec : {M : Type 1} → statement M
 copy-out-spec =
-    tie.close
-    (tie.spec
-    Inv-loop
-    μ-loop
-    loop-holds
-    copy-layer-requires
-    add-z
-    loop-less
-    loop-again
-    same-length
-    returns)
+    tie.close (tie.spec Inv-loop μ-loop loop-holds copy-layer-requires (λ c. omega arith) (λ c. omega arith) loop-again
+    same-length returns)

@@ -19,29 +19,8 @@ loop-holds c =
     let a = c .args in
     (omega arith, fill-none (λ i. a .k + i) (λ i. getD (a .grid .now) (a .at + i) 0) (a .table .now))
 
-add-table : tie.Need-add-table Inv-loop μ-loop
-add-table c = omega arith
-
-mul-table : tie.Need-mul-table Inv-loop μ-loop
-mul-table c = omega arith
-
-shared-slice-read-table : tie.Need-shared-slice-read-table Inv-loop μ-loop
-shared-slice-read-table c = omega arith
-
-add-table-2 : tie.Need-add-table-2 Inv-loop μ-loop
-add-table-2 c = omega arith
-
-mul-table-2 : tie.Need-mul-table-2 Inv-loop μ-loop
-mul-table-2 c = omega arith
-
 slice-write-table : tie.Need-slice-write-table Inv-loop μ-loop
 slice-write-table c = omega (arith, c .before .before .loop .inv .1 .size)
-
-add-x : tie.Need-add-x Inv-loop μ-loop
-add-x c = omega arith
-
-loop-less : tie.Need-loop-less Inv-loop μ-loop
-loop-less c = omega arith
 
 loop-again : tie.Need-loop-again Inv-loop μ-loop
 loop-again c =
@@ -63,19 +42,6 @@ returns c =
 
 pub copy-row-spec : {M : Type 1} → statement M
 copy-row-spec =
-    tie.close
-    (tie.spec
-    Inv-loop
-    μ-loop
-    loop-holds
-    add-table
-    mul-table
-    shared-slice-read-table
-    add-table-2
-    mul-table-2
-    slice-write-table
-    add-x
-    loop-less
-    loop-again
-    same-length
+    tie.close (tie.spec Inv-loop μ-loop loop-holds (λ c. omega arith) (λ c. omega arith) (λ c. omega arith)
+    (λ c. omega arith) (λ c. omega arith) slice-write-table (λ c. omega arith) (λ c. omega arith) loop-again same-length
     returns)

@@ -24,12 +24,6 @@ lay-layer-requires c κs =
     let p = c .before .before .before .before .before .pre in
     (p .0, c .before .loop-test .taken, p .1, c .before .before .loop .inv .1)
 
-add-z : tie.Need-add-z Inv-loop μ-loop
-add-z c = omega arith
-
-loop-less : tie.Need-loop-less Inv-loop μ-loop
-loop-less c = omega arith
-
 loop-again : tie.Need-loop-again Inv-loop μ-loop
 loop-again c = (omega arith, c .before .before .lay-layer .ensures)
 
@@ -45,14 +39,5 @@ returns c =
 
 pub lay-spec : {M : Type 1} → statement M
 lay-spec =
-    tie.close
-    (tie.spec
-    Inv-loop
-    μ-loop
-    loop-holds
-    lay-layer-requires
-    add-z
-    loop-less
-    loop-again
-    same-length
-    returns)
+    tie.close (tie.spec Inv-loop μ-loop loop-holds lay-layer-requires (λ c. omega arith) (λ c. omega arith) loop-again
+    same-length returns)

@@ -43,12 +43,6 @@ lay-row-requires c κs =
       omega (arith, c .row-spot .ensures, l .inv .1 .long, r .w-hi, r .h-hi, r .d-hi, s .pre .1),
     )
 
-add-y : tie.Need-add-y Inv-loop μ-loop
-add-y c = omega arith
-
-loop-less : tie.Need-loop-less Inv-loop μ-loop
-loop-less c = omega arith
-
 loop-again : tie.Need-loop-again Inv-loop μ-loop
 loop-again c =
     let v = c .before .before in
@@ -73,16 +67,5 @@ returns c =
 
 pub lay-layer-spec : {M : Type 1} → statement M
 lay-layer-spec =
-    tie.close
-    (tie.spec
-    Inv-loop
-    μ-loop
-    loop-holds
-    number-requires
-    row-spot-requires
-    lay-row-requires
-    add-y
-    loop-less
-    loop-again
-    same-length
-    returns)
+    tie.close (tie.spec Inv-loop μ-loop loop-holds number-requires row-spot-requires lay-row-requires (λ c. omega arith)
+    (λ c. omega arith) loop-again same-length returns)

@@ -20,29 +20,8 @@ loop-holds c =
     let a = c .before .before .args in
     (omega arith, fill-none (λ i. a .at + i) (λ i. shade (getD (a .marks .now) (a .k + i) 0)) (a .grid .now))
 
-add-shade : tie.Need-add-shade Inv-loop μ-loop
-add-shade c = omega arith
-
-shared-slice-read-shade : tie.Need-shared-slice-read-shade Inv-loop μ-loop
-shared-slice-read-shade c = omega arith
-
-shade-requires : tie.Need-shade-requires Inv-loop μ-loop
-shade-requires c κs = tt
-
-add-grid : tie.Need-add-grid Inv-loop μ-loop
-add-grid c = omega arith
-
-mul-grid : tie.Need-mul-grid Inv-loop μ-loop
-mul-grid c = omega arith
-
 slice-write-grid : tie.Need-slice-write-grid Inv-loop μ-loop
 slice-write-grid c = omega (arith, c .before .before .before .loop .inv .1 .size)
-
-add-x : tie.Need-add-x Inv-loop μ-loop
-add-x c = omega arith
-
-loop-less : tie.Need-loop-less Inv-loop μ-loop
-loop-less c = omega arith
 
 loop-again : tie.Need-loop-again Inv-loop μ-loop
 loop-again c =
@@ -64,19 +43,5 @@ returns c =
 
 pub lay-row-spec : {M : Type 1} → statement M
 lay-row-spec =
-    tie.close
-    (tie.spec
-    Inv-loop
-    μ-loop
-    loop-holds
-    add-shade
-    shared-slice-read-shade
-    shade-requires
-    add-grid
-    mul-grid
-    slice-write-grid
-    add-x
-    loop-less
-    loop-again
-    same-length
-    returns)
+    tie.close (tie.spec Inv-loop μ-loop loop-holds (λ c. omega arith) (λ c. omega arith) (λ c κs. tt) (λ c. omega arith)
+    (λ c. omega arith) slice-write-grid (λ c. omega arith) (λ c. omega arith) loop-again same-length returns)

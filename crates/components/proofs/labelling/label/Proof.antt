@@ -1,188 +1,105 @@
--- `labelling::label` meets its contract. The loop's invariant: what is promised of the grid, up to `at`. Assumes nothing.
-use mathlib.Core.Path.{_≡_, refl, sym, ap, _∙_, subst}
-use Prim.Native.Nat.{ℕ, suc, _-_, _+_, _≤_, _<_}
+-- `labelling::label` meets its contract. The loops' invariant: what is known at the next place. Assumes nothing.
+use mathlib.Core.Path.{sym, ap, _∙_, subst}
+use mathlib.Core.List.{List}
+use Prim.Native.Nat.{ℕ, _-_, _+_, _*_, _≤_}
 use native.Mathlib.Omega.{arith}
-use native.Mathlib.Numerals.{add-one}
-use lib.ListN.{length, getD, length-set}
-use Rattle.components.specs.Grid.{gridSize, unseen, around}
-use Rattle.components.specs.Flood.{Flooded}
-use Rattle.components.specs.Label.{Labelled}
-use Rattle.components.proofs.Parts.{often-le}
-use Rattle.components.proofs.Labels.{label-none, label-past, label-more, label-end, next-fresh, unseen-spot}
-use Rattle.components.proofs.Few.{one-more}
+use borrow.Author.Needs.{needs}
+use lib.ListN.{length}
+use Rattle.components.proofs.Turns.{Turn, turn-none, turn-past, turn-layer, turn-end, few-yet, flood-asks, record-asks, turn-more}
 use Rattle.components.proofs.labelling.label.Statement.{statement}
 use Rattle.components.proofs.labelling.label.Tie as tie
 
+abbrev Inv-loop2 : tie.InvT-loop2
+Inv-loop2 grid₀ h d steps queue₀ records₀ n₀ z from at₀ at-end grid queue records n at =
+    (at ≤ at-end) × (at-end ≤ 4914)
+    × ((g : List ℕ) → Turn g steps at₀ n₀ grid₀ queue₀ records₀ → Turn g steps at n grid queue records)
+
+abbrev μ-loop2 : tie.MeasureT-loop2
+μ-loop2 grid₀ h d steps queue₀ records₀ n₀ z from at₀ at-end grid queue records n at = at-end - at
+
 abbrev Inv-loop : tie.InvT-loop
-Inv-loop grid₀ steps queue₀ records₀ n₀ at₀ grid queue records n at =
-    (307 ≤ at) × (at ≤ 4913) × (length queue ≡ gridSize) × (length records ≡ 1024) × (n ≤ 1024) × Labelled grid₀ at n grid records
+Inv-loop grid₀ h d steps queue₀ records₀ n₀ z₀ grid queue records n z = (z ≤ d) × Turn grid₀ steps (307 + 289 * z) n grid queue records
 
 abbrev μ-loop : tie.MeasureT-loop
-μ-loop grid₀ steps queue₀ records₀ n₀ at₀ grid queue records n at = 4913 - at
+μ-loop grid₀ h d steps queue₀ records₀ n₀ z₀ grid queue records n z = d - z
 
-steps-around-requires : tie.Need-steps-around-requires Inv-loop μ-loop
-steps-around-requires c κs = tt
+-- what is known in the inner loop, of the grid that was lent
+known : (x : tie.At-loop2 Inv-loop2 μ-loop2 Inv-loop μ-loop)
+    → Turn (x .before .before .before .before .before .before .before .args .grid .now) (x .before .before .before .before .before .steps-around .result)
+    (x .loop2 .at) (x .loop2 .n) (x .loop2 .grid) (x .loop2 .queue) (x .loop2 .records)
+known x = x .loop2 .inv .2 _ (x .before .before .loop .inv .1)
 
-blank-queue-requires : tie.Need-blank-queue-requires Inv-loop μ-loop
-blank-queue-requires c κs = tt
+loop-holds : tie.Need-loop-holds Inv-loop2 μ-loop2 Inv-loop μ-loop
+loop-holds c = (omega arith, turn-none (c .before .before .before .before .pre .0) (c .before .before .before .before .pre .1) (c .before .before .steps-around .ensures) (c .before .blank-queue .ensures) (c .blank-records .ensures))
 
-blank-records-requires : tie.Need-blank-records-requires Inv-loop μ-loop
-blank-records-requires c κs = tt
+mul-from : tie.Need-mul-from Inv-loop2 μ-loop2 Inv-loop μ-loop
+mul-from c = omega (arith, c .before .before .before .before .before .before .pre .3)
 
-loop-holds : tie.Need-loop-holds Inv-loop μ-loop
-loop-holds c =
-    let s = c .before .before .before .before in (
-      omega arith,
-      omega arith,
-      c .before .blank-queue .ensures,
-      c .blank-records .ensures,
-      omega arith,
-      label-none (s .args .grid .now) (c .blank-records .result) (s .pre .0) (s .pre .1),
-    )
+add-from : tie.Need-add-from Inv-loop2 μ-loop2 Inv-loop μ-loop
+add-from c = omega (arith, c .before .before .before .before .before .before .pre .3)
 
-mul-if1 : tie.Need-mul-if1 Inv-loop μ-loop
-mul-if1 c = omega arith
+mul-at-end : tie.Need-mul-at-end Inv-loop2 μ-loop2 Inv-loop μ-loop
+mul-at-end c = let l = c .before .before .before .before .before .before .pre .4 (omega arith) in omega arith
 
-slice-read-if1 : tie.Need-slice-read-if1 Inv-loop μ-loop
-slice-read-if1 c = omega (arith, c .before .before .loop .inv .5 .size)
+add-at-end : tie.Need-add-at-end Inv-loop2 μ-loop2 Inv-loop μ-loop
+add-at-end c = let l = c .before .before .before .before .before .before .pre .4 (omega arith) in omega (arith, c .before .before .before .before .before .before .pre .3)
 
-add-at : tie.Need-add-at Inv-loop μ-loop
-add-at c = omega arith
+loop2-holds : tie.Need-loop2-holds Inv-loop2 μ-loop2 Inv-loop μ-loop
+loop2-holds c = let l = c .before .before .before .before .before .before .pre .4 (omega arith) in (omega arith, omega (arith, c .before .before .before .before .before .before .pre .3), λ g T. T)
 
-loop-less : tie.Need-loop-less Inv-loop μ-loop
-loop-less c = omega arith
+slice-read-if1 : tie.Need-slice-read-if1 Inv-loop2 μ-loop2 Inv-loop μ-loop
+slice-read-if1 c = omega (arith, known (c .before .before) .labelled .size)
 
-loop-again : tie.Need-loop-again Inv-loop μ-loop
-loop-again c =
-    let l = c .before .before .before .loop in
-    let g = c .before .before .before .before .before .before .before .before .args .grid .now in
-    (omega arith, omega arith, l .inv .2, l .inv .3, l .inv .4, label-past g (l .at) (l .n) (l .grid) (l .records) (l .inv .5) (c .if1 .taken))
+loop2-again : tie.Need-loop2-again Inv-loop2 μ-loop2 Inv-loop μ-loop
+loop2-again c = let l = c .before .before .before .loop2 in (omega arith, l .inv .1, λ g T. turn-past (l .inv .2 g T) (c .if1 .taken))
 
--- a turn that finds a component: there is room for its record
-few-yet : (c : tie.Else1 Inv-loop μ-loop) → c .before .before .before .loop .n < 1024
-few-yet c =
-    let l = c .before .before .before .loop in
-    let s = c .before .before .before .before .before .before .before .before in
-    one-more (s .args .grid .now) (l .at) (l .n) (l .grid) (l .records) (l .inv .5) (s .pre .1) (c .if1 .left) (omega arith)
+slice-aggregate-flood : tie.Need-slice-aggregate-flood Inv-loop2 μ-loop2 Inv-loop μ-loop
+slice-aggregate-flood c = sym (known (c .before .before .before .before .before) .queue)
 
-slice-aggregate-flood : tie.Need-slice-aggregate-flood Inv-loop μ-loop
-slice-aggregate-flood c = sym (c .before .before .before .before .before .loop .inv .2)
+slice-aggregate-flood-2 : tie.Need-slice-aggregate-flood-2 Inv-loop2 μ-loop2 Inv-loop μ-loop
+slice-aggregate-flood-2 c = sym (ap length (known (c .before .before .before .before .before .before) .steps))
 
--- the steps that are lent are those around a place
-the-steps : (c : tie.Else1 Inv-loop μ-loop) → c .before .before .before .before .before .before .steps-around .result ≡ around
-the-steps c = c .before .before .before .before .before .before .steps-around .ensures
+add-flood : tie.Need-add-flood Inv-loop2 μ-loop2 Inv-loop μ-loop
+add-flood c = omega (arith, known (c .before .before .before .before .before .before) .few)
 
-slice-aggregate-flood-2 : tie.Need-slice-aggregate-flood-2 Inv-loop μ-loop
-slice-aggregate-flood-2 c = sym (ap length (the-steps (c .before .before .before)))
+cast-flood : tie.Need-cast-flood Inv-loop2 μ-loop2 Inv-loop μ-loop
+cast-flood c = omega (arith, known (c .before .before .before .before .before .before) .few)
 
-add-flood : tie.Need-add-flood Inv-loop μ-loop
-add-flood c = omega arith
+flood-requires : tie.Need-flood-requires Inv-loop2 μ-loop2 Inv-loop μ-loop
+flood-requires c κs = flood-asks (known (c .before .before .before .before .before .before)) (c .before .before .before .if1 .left)
 
-cast-flood : tie.Need-cast-flood Inv-loop μ-loop
-cast-flood c = omega arith
+slice-aggregate-record-of : tie.Need-slice-aggregate-record-of Inv-loop2 μ-loop2 Inv-loop μ-loop
+slice-aggregate-record-of c = let v = c .before .before .before .before in sym (v .flood .kept .1 .0 ∙ known (v .before .before .before .before .before .before .before) .queue)
 
-flood-requires : tie.Need-flood-requires Inv-loop μ-loop
-flood-requires c κs =
-    let d = c .before .before .before in
-    let l = d .before .before .before .loop in
-    let s = d .before .before .before .before .before .before .before .before in
-    let L = l .inv .5 in
-    let small : suc (l .n) < unseen = omega (arith, few-yet d) in (
-      record { grid = L .size; queue = l .inv .2 },
-      omega arith,
-      d .if1 .left,
-      unseen-spot (s .args .grid .now) (l .at) (l .n) (l .grid) (l .records) L small (s .pre .1),
-      λ j e. next-fresh (s .args .grid .now) (l .at) (l .n) (l .grid) (l .records) L small (s .pre .1) j (e ∙ add-one (l .n)),
-      the-steps d,
-    )
+record-of-requires : tie.Need-record-of-requires Inv-loop2 μ-loop2 Inv-loop μ-loop
+record-of-requires c κs = let v = c .before .before .before .before in record-asks (known (v .before .before .before .before .before .before .before)) (v .before .before .before .before .if1 .left) (v .flood .kept .0) (v .flood .kept .1 .0) (v .flood .ensures)
 
-slice-aggregate-record-of : tie.Need-slice-aggregate-record-of Inv-loop μ-loop
-slice-aggregate-record-of c =
-    let v = c .before .before .before .before in
-    sym (v .flood .kept .1 .0 ∙ v .before .before .before .before .before .before .before .loop .inv .2)
+mul-records : tie.Need-mul-records Inv-loop2 μ-loop2 Inv-loop μ-loop
+mul-records c = omega (arith, few-yet (known (c .before .before .before .before .before .before .before .before .before .before .before .before)) (c .before .before .before .before .before .before .before .before .before .if1 .left))
 
-record-of-requires : tie.Need-record-of-requires Inv-loop μ-loop
-record-of-requires c κs =
-    let v = c .before .before .before .before in
-    let d = v .before .before .before .before in
-    let l = d .before .before .before .loop in
-    let s = d .before .before .before .before .before .before .before .before in
-    let F = v .flood .ensures in (
-      v .flood .kept .1 .0 ∙ l .inv .2,
-      omega (arith, F .part .all (l .at) (F .start) .1),
-      omega (arith, F .counted, often-le (v .flood .last .0) (l .n + 1), v .flood .kept .0, l .inv .5 .size),
-      λ t h. unseen-spot (s .args .grid .now) (l .at) (l .n) (l .grid) (l .records) (l .inv .5) (omega (arith, few-yet d)) (s .pre .1) _ (F .part .each t h .0),
-    )
+array-set-from-records : tie.Need-array-set-from-records Inv-loop2 μ-loop2 Inv-loop μ-loop
+array-set-from-records c = few-yet (known (c .before .before .before .before .before .before .before .before .before .before .before .before)) (c .before .before .before .before .before .before .before .before .before .if1 .left)
 
-mul-records : tie.Need-mul-records Inv-loop μ-loop
-mul-records c = omega (arith, few-yet (c .before .before .before .before .before .before .before .before .before))
+add-n : tie.Need-add-n Inv-loop2 μ-loop2 Inv-loop μ-loop
+add-n c = omega (arith, few-yet (known (c .before .before .before .before .before .before .before .before .before .before .before .before)) (c .before .before .before .before .before .before .before .before .before .if1 .left))
 
-array-set-from-records : tie.Need-array-set-from-records Inv-loop μ-loop
-array-set-from-records c = few-yet (c .before .before .before .before .before .before .before .before .before)
+loop2-again-2 : tie.Need-loop2-again-2 Inv-loop2 μ-loop2 Inv-loop μ-loop
+loop2-again-2 c = let v = c .before .before .before .before .before in let l = v .before .before .before .before .before .before .before .loop2 in (omega arith, l .inv .1, λ g T. turn-more (l .inv .2 g T) (v .before .before .before .before .if1 .left) (v .flood .kept .0) (v .flood .kept .1 .0) (v .flood .ensures) (c .record-of .result) (c .record-of .ensures .0) (c .record-of .ensures .1))
 
-add-n : tie.Need-add-n Inv-loop μ-loop
-add-n c = omega (arith, few-yet (c .before .before .before .before .before .before .before .before .before))
+loop-again : tie.Need-loop-again Inv-loop2 μ-loop2 Inv-loop μ-loop
+loop-again c = let l = c .before .loop2 in let s = c .before .before .before .before .before .before .before .before in (omega arith, turn-layer (known (c .before)) (s .args .h) (s .args .d) _ (s .pre .2) (s .pre .4 (omega arith)) (omega arith))
 
-add-at-2 : tie.Need-add-at-2 Inv-loop μ-loop
-add-at-2 c = omega arith
+same-length : tie.Need-same-length Inv-loop2 μ-loop2 Inv-loop μ-loop
+same-length c = omega (arith, c .before .before .before .before .before .before .pre .0, c .before .loop .inv .1 .labelled .size)
 
-loop-less-2 : tie.Need-loop-less-2 Inv-loop μ-loop
-loop-less-2 c = omega arith
-
-loop-again-2 : tie.Need-loop-again-2 Inv-loop μ-loop
-loop-again-2 c =
-    let v = c .before .before .before .before .before in
-    let d = v .before .before .before .before in
-    let l = d .before .before .before .loop in
-    let s = d .before .before .before .before .before .before .before .before in
-    let F = subst (λ (m : ℕ). Flooded (l .grid) (l .at) m (v .flood .last .0) (v .flood .last .1 .0) (v .flood .result)) (add-one (l .n)) (v .flood .ensures) in
-    let M = label-more (s .args .grid .now) (l .at) (l .n) (l .grid) (l .records) (l .inv .5) (omega (arith, few-yet d)) (s .pre .1)
-    (v .flood .last .0) (v .flood .last .1 .0) (v .flood .result) (v .flood .kept .0 ∙ l .inv .5 .size) F
-    (c .record-of .result) (c .record-of .ensures .0) (c .record-of .ensures .1) (omega (arith, few-yet d, l .inv .3)) in (
-      omega arith,
-      omega arith,
-      v .flood .kept .1 .0 ∙ l .inv .2,
-      length-set (l .records) (l .n) (c .record-of .result) ∙ l .inv .3,
-      omega (arith, few-yet d),
-      rw (add-one (l .n)) M,
-    )
-
-same-length : tie.Need-same-length Inv-loop μ-loop
-same-length c = omega (arith, c .before .before .before .before .before .before .pre .0, c .before .loop .inv .5 .size)
-
-returns : tie.Need-returns Inv-loop μ-loop
-returns c =
-    let l = c .before .loop in
-    let s = c .before .before .before .before .before .before in
-    (label-end (s .args .grid .now) (l .at) (l .n) (l .grid) (l .records) (l .inv .5) (omega (arith, l .inv .4)) (s .pre .1) (omega arith), l .inv .3, l .inv .4)
+returns : tie.Need-returns Inv-loop2 μ-loop2 Inv-loop μ-loop
+returns c = let l = c .before .loop in let s = c .before .before .before .before .before .before in (turn-end (l .inv .1) (s .args .h) (s .args .d) (s .pre .2) (s .pre .3) (omega arith), l .inv .1 .room, l .inv .1 .few)
 
 pub label-spec : {M : Type 1} → statement M
 label-spec =
-    tie.close
-    (tie.spec
-    Inv-loop
-    μ-loop
-    steps-around-requires
-    blank-queue-requires
-    blank-records-requires
-    loop-holds
-    mul-if1
-    slice-read-if1
-    add-at
-    loop-less
-    loop-again
-    slice-aggregate-flood
-    slice-aggregate-flood-2
-    add-flood
-    cast-flood
-    flood-requires
-    slice-aggregate-record-of
-    record-of-requires
-    mul-records
-    array-set-from-records
-    add-n
-    add-at-2
-    loop-less-2
-    loop-again-2
-    same-length
-    returns)
+    tie.close (tie.spec Inv-loop2 μ-loop2 Inv-loop μ-loop (λ c κs. search needs) (λ c κs. search needs)
+    (λ c κs. search needs) loop-holds mul-from add-from mul-at-end add-at-end loop2-holds (λ c. omega arith)
+    slice-read-if1 (λ c. omega arith) (λ c. omega arith) loop2-again slice-aggregate-flood slice-aggregate-flood-2
+    add-flood cast-flood flood-requires slice-aggregate-record-of record-of-requires mul-records array-set-from-records
+    add-n (λ c. omega arith) (λ c. omega arith) loop2-again-2 (λ c. omega arith) (λ c. omega arith) loop-again
+    same-length returns)

@@ -56,9 +56,6 @@ widened-requires c κs = let (e, x, y, z) = c .place-at2 .ensures in (x, y, z)
 add-t : tie.Need-add-t Inv-loop μ-loop
 add-t c = omega (arith, c .before .before .before .before .before .before .before .before .before .pre .2)
 
-loop-less : tie.Need-loop-less Inv-loop μ-loop
-loop-less c = omega arith
-
 loop-again : tie.Need-loop-again Inv-loop μ-loop
 loop-again c =
     let l = c .before .before .before .before .loop in
@@ -78,21 +75,6 @@ returns c =
 
 pub record-of-spec : {M : Type 1} → statement M
 record-of-spec =
-    tie.close
-    (tie.spec
-    Inv-loop
-    μ-loop
-    shared-slice-read-place-at
-    cast-place-at
-    place-at-requires
-    alone-requires
-    loop-holds
-    mul-place-at
-    shared-slice-read-place-at-2
-    cast-place-at-2
-    place-at-requires-2
-    widened-requires
-    add-t
-    loop-less
-    loop-again
-    returns)
+    tie.close (tie.spec Inv-loop μ-loop shared-slice-read-place-at cast-place-at place-at-requires alone-requires
+    loop-holds mul-place-at shared-slice-read-place-at-2 cast-place-at-2 place-at-requires-2 widened-requires add-t
+    (λ c. omega arith) loop-again returns)

@@ -22,30 +22,12 @@ unread at = at .loop .inv .1 .kept (at .loop .i) (λ j h e. omega arith)
 loop-holds : tie.Need-loop-holds Inv-loop μ-loop
 loop-holds c = (omega arith, fill-none _ _ _)
 
-shared-slice-read-mark-byte : tie.Need-shared-slice-read-mark-byte Inv-loop μ-loop
-shared-slice-read-mark-byte c = omega arith
-
-slice-read-mark-byte : tie.Need-slice-read-mark-byte Inv-loop μ-loop
-slice-read-mark-byte c = omega arith
-
-shared-slice-read-mark-byte-2 : tie.Need-shared-slice-read-mark-byte-2 Inv-loop μ-loop
-shared-slice-read-mark-byte-2 c = omega arith
-
 mark-byte-requires : tie.Need-mark-byte-requires Inv-loop μ-loop
 mark-byte-requires c κs =
     let at = c .before .before .before .before in
     let s = at .before .before .before .before in
     let l = c .before .before .before .loop-test .taken in
     (rw (unread at) (s .pre .2 .bits (at .loop .i) l), s .pre .1 .bits (at .loop .i) l)
-
-slice-write-out : tie.Need-slice-write-out Inv-loop μ-loop
-slice-write-out c = omega arith
-
-add-i : tie.Need-add-i Inv-loop μ-loop
-add-i c = omega arith
-
-loop-less : tie.Need-loop-less Inv-loop μ-loop
-loop-less c = omega arith
 
 loop-again : tie.Need-loop-again Inv-loop μ-loop
 loop-again c =
@@ -69,18 +51,5 @@ returns c =
 
 pub join-spec : {M : Type 1} → statement M
 join-spec =
-    tie.close
-    (tie.spec
-    Inv-loop
-    μ-loop
-    loop-holds
-    shared-slice-read-mark-byte
-    slice-read-mark-byte
-    shared-slice-read-mark-byte-2
-    mark-byte-requires
-    slice-write-out
-    add-i
-    loop-less
-    loop-again
-    same-length
-    returns)
+    tie.close (tie.spec Inv-loop μ-loop loop-holds (λ c. omega arith) (λ c. omega arith) (λ c. omega arith)
+    mark-byte-requires (λ c. omega arith) (λ c. omega arith) (λ c. omega arith) loop-again same-length returns)

@@ -20,15 +20,6 @@ abbrev μ-loop : tie.MeasureT-loop
 loop-holds : tie.Need-loop-holds Inv-loop μ-loop
 loop-holds c = (omega arith, fill-none _ _ _, refl)
 
-coordinate-requires : tie.Need-coordinate-requires Inv-loop μ-loop
-coordinate-requires c κs = omega arith
-
-add-shut-byte : tie.Need-add-shut-byte Inv-loop μ-loop
-add-shut-byte c = omega arith
-
-shared-slice-read-shut-byte : tie.Need-shared-slice-read-shut-byte Inv-loop μ-loop
-shared-slice-read-shut-byte c = omega arith
-
 add-shut-byte-2 : tie.Need-add-shut-byte-2 Inv-loop μ-loop
 add-shut-byte-2 c = omega (arith, c .before .before .before .before .before .before .pre .2 .long)
 
@@ -50,18 +41,6 @@ shut-byte-requires c κs =
     let bits = read-bits (now (a .cells)) (now (a .out)) (at .loop .out) (a .w) (a .k) (a .j) (a .l) (a .down) (at .loop .a) (at .loop .last)
     (x .coordinate .result) (s .pre .2) (s .pre .3) (at .loop .inv .1) (omega arith) (x .coordinate .ensures .0) (at .loop .inv .2) in
     search bits
-
-add-out : tie.Need-add-out Inv-loop μ-loop
-add-out c = omega arith
-
-slice-write-out : tie.Need-slice-write-out Inv-loop μ-loop
-slice-write-out c = omega arith
-
-add-a : tie.Need-add-a Inv-loop μ-loop
-add-a c = omega arith
-
-loop-less : tie.Need-loop-less Inv-loop μ-loop
-loop-less c = omega arith
 
 loop-again : tie.Need-loop-again Inv-loop μ-loop
 loop-again c =
@@ -91,23 +70,6 @@ returns c =
 
 pub row-at-spec : {M : Type 1} → statement M
 row-at-spec =
-    tie.close
-    (tie.spec
-    Inv-loop
-    μ-loop
-    loop-holds
-    coordinate-requires
-    add-shut-byte
-    shared-slice-read-shut-byte
-    add-shut-byte-2
-    slice-read-shut-byte
-    add-shut-byte-3
-    slice-read-shut-byte-2
-    shut-byte-requires
-    add-out
-    slice-write-out
-    add-a
-    loop-less
-    loop-again
-    same-length
-    returns)
+    tie.close (tie.spec Inv-loop μ-loop loop-holds (λ c κs. omega arith) (λ c. omega arith) (λ c. omega arith)
+    add-shut-byte-2 slice-read-shut-byte add-shut-byte-3 slice-read-shut-byte-2 shut-byte-requires (λ c. omega arith)
+    (λ c. omega arith) (λ c. omega arith) (λ c. omega arith) loop-again same-length returns)

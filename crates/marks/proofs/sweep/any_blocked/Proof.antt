@@ -12,17 +12,11 @@ use Rattle.marks.proofs.Clear.{Begun, all-fit, clear}
 use Rattle.marks.proofs.sweep.any_blocked.Statement.{statement}
 use Rattle.marks.proofs.sweep.any_blocked.Tie as tie
 
-sub-meet : tie.Need-sub-meet
-sub-meet c = omega arith
-
 number-requires : tie.Need-number-requires
 number-requires c κs =
     let s = c .before .before in
     let r = s .pre .0 in
     (r, record { x-in = omega (arith, r .w-lo); y-in = omega (arith, r .h-lo); z-in = c .coordinate .ensures .1 })
-
-sub-t12 : tie.Need-sub-t12
-sub-t12 c = omega arith
 
 number-requires-2 : tie.Need-number-requires-2
 number-requires-2 c κs =
@@ -72,5 +66,5 @@ returns c t cells flat A =
 
 pub any-blocked-spec : {M : Type 1} → statement M
 any-blocked-spec =
-    tie.close (tie.spec (λ c κs. search needs) sub-meet number-requires sub-t12 number-requires-2 ahead-z-requires
-    (λ c κs. search needs) meet-requires returns)
+    tie.close (tie.spec (λ c κs. search needs) (λ c. omega arith) number-requires (λ c. omega arith) number-requires-2
+    ahead-z-requires (λ c κs. search needs) meet-requires returns)

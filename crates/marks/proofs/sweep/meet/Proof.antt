@@ -18,30 +18,6 @@ abbrev μ-loop : tie.MeasureT-loop
 loop-holds : tie.Need-loop-holds Inv-loop μ-loop
 loop-holds c = (omega arith, λ e i l. absurd (omega arith))
 
-add-met : tie.Need-add-met Inv-loop μ-loop
-add-met c = omega arith
-
-shared-slice-read-met : tie.Need-shared-slice-read-met Inv-loop μ-loop
-shared-slice-read-met c = omega arith
-
-add-met-2 : tie.Need-add-met-2 Inv-loop μ-loop
-add-met-2 c = omega arith
-
-shared-slice-read-met-2 : tie.Need-shared-slice-read-met-2 Inv-loop μ-loop
-shared-slice-read-met-2 c = omega arith
-
-add-met-3 : tie.Need-add-met-3 Inv-loop μ-loop
-add-met-3 c = omega arith
-
-shared-slice-read-met-3 : tie.Need-shared-slice-read-met-3 Inv-loop μ-loop
-shared-slice-read-met-3 c = omega arith
-
-add-i : tie.Need-add-i Inv-loop μ-loop
-add-i c = omega arith
-
-loop-less : tie.Need-loop-less Inv-loop μ-loop
-loop-less c = omega arith
-
 loop-again : tie.Need-loop-again Inv-loop μ-loop
 loop-again c =
     let at = c .before .before .before .before in
@@ -57,18 +33,5 @@ returns c t =
 
 pub meet-spec : {M : Type 1} → statement M
 meet-spec =
-    tie.close
-    (tie.spec
-    Inv-loop
-    μ-loop
-    loop-holds
-    add-met
-    shared-slice-read-met
-    add-met-2
-    shared-slice-read-met-2
-    add-met-3
-    shared-slice-read-met-3
-    add-i
-    loop-less
-    loop-again
-    returns)
+    tie.close (tie.spec Inv-loop μ-loop loop-holds (λ c. omega arith) (λ c. omega arith) (λ c. omega arith)
+    (λ c. omega arith) (λ c. omega arith) (λ c. omega arith) (λ c. omega arith) (λ c. omega arith) loop-again returns)

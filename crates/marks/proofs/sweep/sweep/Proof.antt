@@ -20,9 +20,6 @@ Inv-loop s cells out₀ o d c₀ out c =
 abbrev μ-loop : tie.MeasureT-loop
 μ-loop s cells out₀ o d c₀ out c = d - c
 
-nodes-requires : tie.Need-nodes-requires Inv-loop μ-loop
-nodes-requires c κs = search needs
-
 lay-requires : tie.Need-lay-requires Inv-loop μ-loop
 lay-requires c κs =
     let r = c .before .before .before .before .pre in
@@ -39,9 +36,6 @@ start c =
     laid (mapOf (a .s) (now (a .cells))) (a .o) (s .pre .sized) (now (a .out)) (c .lay .last .1 .0)
     (subst (λ (n : ℕ). Filled (λ i. i) (λ i. bit (faultyCell (getD (now (a .cells)) i 0))) (now (a .out)) (c .lay .last .1 .0) n)
     (c .before .nodes .ensures .0) (c .lay .ensures))
-
-edge-layers-requires : tie.Need-edge-layers-requires Inv-loop μ-loop
-edge-layers-requires c κs = search needs
 
 loop-holds : tie.Need-loop-holds Inv-loop μ-loop
 loop-holds c =
@@ -73,12 +67,6 @@ layer-requires c κs =
       at .loop .inv .3 .swept,
     )
 
-add-c : tie.Need-add-c Inv-loop μ-loop
-add-c c = omega arith
-
-loop-less : tie.Need-loop-less Inv-loop μ-loop
-loop-less c = omega arith
-
 loop-again : tie.Need-loop-again Inv-loop μ-loop
 loop-again c =
     let at = c .before .before .before .before .before in
@@ -108,17 +96,5 @@ returns c =
 
 pub sweep-spec : {M : Type 1} → statement M
 sweep-spec =
-    tie.close
-    (tie.spec
-    Inv-loop
-    μ-loop
-    nodes-requires
-    lay-requires
-    edge-layers-requires
-    loop-holds
-    layer-requires
-    add-c
-    loop-less
-    loop-again
-    same-length
-    returns)
+    tie.close (tie.spec Inv-loop μ-loop (λ c κs. search needs) lay-requires (λ c κs. search needs) loop-holds
+    layer-requires (λ c. omega arith) (λ c. omega arith) loop-again same-length returns)
