@@ -1,11 +1,11 @@
 -- Text as bytes: words, and numbers in decimal. Assumes nothing.
-use mathlib.Core.Bool.{cond}
+use mathlib.Core.Bool.{true, false, cond}
 use mathlib.Core.List.{List, [], _∷_, _++_}
 use mathlib.Core.Path.{_≡_}
 use Prim.Native.Nat.{ℕ, zero, suc, _+_, _/_, _%_}
 use Prim.Native.Char.{code}
 use Prim.Native.String.{String, [] as none, _∷_ as _then_}
-use lib.Dec.{ltb}
+use lib.Dec.{eqb, ltb}
 use lib.ListN.{length}
 use Rattle.mapfile.specs.Stored.{stored}
 
@@ -21,6 +21,12 @@ decimalWithin (suc more) n = cond (ltb n 10) ((48 + n) ∷ []) (decimalWithin mo
 
 abbrev pub decimal : ℕ → List ℕ
 decimal n = decimalWithin 20 n
+
+-- a form with its numbers: each `%` gives way to the next number, in decimal; one without a number left stays
+unfoldable pub told : List ℕ → List ℕ → List ℕ
+told [] numbers = []
+told (b ∷ form) [] = b ∷ told form []
+told (b ∷ form) (n ∷ numbers) = elim (eqb b 37) [ true ↦ decimal n ++ told form numbers | false ↦ b ∷ told form (n ∷ numbers) ]
 
 -- `text` has been stored from `at` on, and `next` is the place after it
 pub record Said (old : List ℕ) (at : ℕ) (text new : List ℕ) (next : ℕ) : Type 0 where

@@ -1,9 +1,9 @@
-// Text into lent bytes: words, and numbers in decimal.
+// Text into lent bytes: words, numbers in decimal, and forms with numbers in them.
 use mapfile::storing::put;
 ghost use mathlib.Core.List.{_++_};
-ghost use Prim.Native.Nat.{_+_, _≤_};
+ghost use Prim.Native.Nat.{_+_, _*_, _≤_};
 ghost use lib.ListN.{length};
-ghost use Rattle.text.specs.Text.{decimal, Said};
+ghost use Rattle.text.specs.Text.{decimal, told, Said};
 
 // Stores a word from a place on; the place after it.
 pub fn say(word: &[u8], out: &mut [u8], at: usize) -> usize
@@ -32,4 +32,26 @@ pub fn say_both(word: &[u8], n: usize, out: &mut [u8], at: usize) -> usize
 {
     let next = say(word, out, at);
     say_number(n, out, next)
+}
+
+// Stores a form with its numbers.
+pub fn tell(form: &[u8], numbers: &[usize], out: &mut [u8], at: usize) -> usize
+    requires { ⌜ at + (length (now form) + 20 * length (now numbers)) ≤ length (now out) ⌝ }
+    ensures { λ r. ⌜ Said (now (out .entry)) at (told (now (form .entry)) (now (numbers .entry))) (now (out .exit)) r
+        × (r ≤ at + (length (now (form .entry)) + 20 * length (now (numbers .entry)))) ⌝ }
+{
+    let mut next = at;
+    let mut j = 0;
+    for i in 0..form.len() {
+        if form[i] == b'%' {
+            if j < numbers.len() {
+                next = say_number(numbers[j], out, next);
+                j += 1;
+                continue;
+            }
+        }
+        out[next] = form[i];
+        next += 1;
+    }
+    next
 }
