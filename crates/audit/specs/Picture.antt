@@ -7,12 +7,12 @@ use Prim.Native.Nat.{ℕ, _+_}
 use lib.Dec.{eqb}
 use lib.ListN.{length, getD}
 use Rattle.mesh.specs.Tools.{one, table}
-use Rattle.mesh.specs.Mesh.{InRange, place, nodes, number, placeOf}
+use Rattle.mesh.specs.Mesh.{InRange, nodes, placeOf}
 use Rattle.mesh.specs.Cells.{Map, mayPass}
 use Rattle.mesh.specs.declared.Sizes.{Sizes}
 use Rattle.mesh.specs.declared.Place.{Place}
 use Rattle.routes.specs.Offered.{reached}
-use Rattle.routes.specs.Box.{between, gone, reach, Held}
+use Rattle.routes.specs.Box.{between, gone, rowRun, Held}
 use Rattle.routes.specs.declared.Run.{Run}
 use Rattle.routes.specs.declared.Between.{Between}
 use Rattle.text.specs.Text.{ascii, told}
@@ -34,24 +34,27 @@ pub record Drawn (S : Sizes) (drawn : List ℕ) (g : Between) : Type 0 where
   pub whole : length drawn ≡ nodes S
   pub held : Held S g
 
--- the symbol after a, b and c steps from the start
-abbrev pub symbolAt : Sizes → List ℕ → Between → ℕ → ℕ → ℕ → List ℕ
-symbolAt S drawn g c b a = ascii "  " ++ getD drawn (number S (reach g (place a b c))) 0 ∷ []
-
 -- a row: its y, its symbols, its first and its last node
-unfoldable pub rowText : Sizes → List ℕ → Between → ℕ → ℕ → List ℕ
-rowText S drawn g c b =
-    toldWide (ascii "    y  %  ") (ascii "    y %  ") (gone (g .y) b) ++ pieces (symbolAt S drawn g c b) (g .x .steps + 1)
-    ++ told (ascii "   nodes % to %\n") (number S (reach g (place 0 b c)) ∷ number S (reach g (place (g .x .steps) b c)) ∷ [])
+abbrev pub symbolAt : List ℕ → Run → ℕ → List ℕ
+symbolAt drawn row a = ascii "  " ++ getD drawn (gone row a) 0 ∷ []
+
+unfoldable pub rowText : List ℕ → ℕ → Run → List ℕ
+rowText drawn y row =
+    toldWide (ascii "    y  %  ") (ascii "    y %  ") y ++ pieces (symbolAt drawn row) (row .steps + 1)
+    ++ told (ascii "   nodes % to %\n") (row .from ∷ gone row (row .steps) ∷ [])
+
+abbrev pub rowIn : Sizes → List ℕ → Between → ℕ → ℕ → List ℕ
+rowIn S drawn g c b = rowText drawn (gone (g .y) b) (rowRun S g b c)
 
 -- a layer: its z, the x of its columns, its rows
 abbrev pub columnText : Run → ℕ → List ℕ
 columnText x a = toldWide (ascii "  %") (ascii " %") (gone x a)
 
+unfoldable pub layerHead : ℕ → Run → List ℕ
+layerHead z x = told (ascii "  layer z %\n    x     ") (z ∷ []) ++ pieces (columnText x) (x .steps + 1) ++ ascii "\n"
+
 unfoldable pub layerText : Sizes → List ℕ → Between → ℕ → List ℕ
-layerText S drawn g c =
-    told (ascii "  layer z %\n    x     ") (gone (g .z) c ∷ []) ++ pieces (columnText (g .x)) (g .x .steps + 1) ++ ascii "\n"
-    ++ pieces (rowText S drawn g c) (g .y .steps + 1)
+layerText S drawn g c = layerHead (gone (g .z) c) (g .x) ++ pieces (rowIn S drawn g c) (g .y .steps + 1)
 
 -- the ends, and the directions towards the end: `+` or `-` and the axis
 unfoldable pub wayText : Run → ℕ → List ℕ

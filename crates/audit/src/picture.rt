@@ -9,90 +9,68 @@ use routes::boxes::between;
 use text::say;
 use text::tell;
 ghost use mathlib.Core.Path.{_≡_};
-ghost use Prim.Native.Nat.{_+_, _≤_};
+ghost use Prim.Native.Nat.{_+_, _≤_, _<_};
 ghost use lib.ListN.{length};
-ghost use Rattle.mesh.specs.Mesh.{place};
 ghost use Rattle.mesh.specs.Cells.{mapOf};
 ghost use Rattle.mesh.specs.declared.Answer.the-variants.{Done};
 ghost use Rattle.routes.specs.Entries.{checkEnds};
-ghost use Rattle.routes.specs.Box.{OnAxis, Within};
+ghost use Rattle.routes.specs.Box.{OnAxis};
 ghost use Rattle.text.specs.Text.{Said};
 ghost use Rattle.audit.specs.Words.{pieces};
-ghost use Rattle.audit.specs.Picture.{Drawn, symbolAt, columnText, rowText, layerText, picture};
+ghost use Rattle.audit.specs.Picture.{Drawn, symbolAt, rowText, rowIn, layerHead, layerText, picture};
 
-// The x of each column.
-fn columns(x: Run, out: &mut [u8], at: usize) -> usize
-    requires { ⌜ OnAxis x 16 × (at + 368 ≤ length (now out)) ⌝ }
-    ensures { λ r. ⌜ Said (now (out .entry)) at (pieces (columnText x) (x .steps + 1)) (now (out .exit)) r × (r ≤ at + 368) ⌝ }
-{
-    let n = x.steps + 1;
-    let mut next = at;
-    for a in 0..n {
-        next = tell_wide(b"  %", b" %", x.at(a), out, next);
-    }
-    next
-}
-
-// The symbols of the row after b and c steps.
-fn row_symbols(
-    s: Sizes,
-    drawn: &[u8],
-    g: Between,
-    c: usize,
-    b: usize,
-    out: &mut [u8],
-    at: usize,
-) -> usize
-    requires { ⌜ Drawn s (now drawn) g × Within g (place 0 b c) × (at + 48 ≤ length (now out)) ⌝ }
-    ensures { λ r. ⌜ Said (now (out .entry)) at (pieces (symbolAt s (now (drawn .entry)) g c b) (g .x .steps + 1)) (now (out .exit)) r
+// The symbols of a row of nodes.
+fn row_symbols(drawn: &[u8], row: Run, out: &mut [u8], at: usize) -> usize
+    requires { ⌜ OnAxis row 4096 × OnAxis row (length (now drawn)) × (row .steps < 16) × (at + 48 ≤ length (now out)) ⌝ }
+    ensures { λ r. ⌜ Said (now (out .entry)) at (pieces (symbolAt (now (drawn .entry)) row) (row .steps + 1)) (now (out .exit)) r
         × (r ≤ at + 48) ⌝ }
 {
-    let n = g.x.steps + 1;
+    let n = row.steps + 1;
     let mut next = at;
     for a in 0..n {
-        let k = g.node(s, a, b, c);
-        next = say(&[b' ', b' ', drawn[k]], out, next);
+        next = say(&[b' ', b' ', drawn[row.at(a)]], out, next);
     }
     next
 }
 
-// The row after b and c steps.
-fn row(s: Sizes, drawn: &[u8], g: Between, c: usize, b: usize, out: &mut [u8], at: usize) -> usize
-    requires { ⌜ Drawn s (now drawn) g × Within g (place 0 b c) × (at + 134 ≤ length (now out)) ⌝ }
-    ensures { λ r. ⌜ Said (now (out .entry)) at (rowText s (now (drawn .entry)) g c b) (now (out .exit)) r × (r ≤ at + 134) ⌝ }
+// A row of nodes.
+fn say_row(drawn: &[u8], y: usize, row: Run, out: &mut [u8], at: usize) -> usize
+    requires { ⌜ OnAxis row 4096 × OnAxis row (length (now drawn)) × (row .steps < 16) × (at + 134 ≤ length (now out)) ⌝ }
+    ensures { λ r. ⌜ Said (now (out .entry)) at (rowText (now (drawn .entry)) y row) (now (out .exit)) r × (r ≤ at + 134) ⌝ }
 {
-    let y = g.y;
-    let label = tell_wide(b"    y  %  ", b"    y %  ", y.at(b), out, at);
-    let symbols = row_symbols(s, drawn, g, c, b, out, label);
-    let first = g.node(s, 0, b, c);
-    let last = g.node(s, g.x.steps, b, c);
-    tell(b"   nodes % to %\n", &[first, last], out, symbols)
+    let label = tell_wide(b"    y  %  ", b"    y %  ", y, out, at);
+    let symbols = row_symbols(drawn, row, out, label);
+    let last = row.at(row.steps);
+    tell(b"   nodes % to %\n", &[row.from, last], out, symbols)
 }
 
 // All rows of the layer after c steps.
 fn rows(s: Sizes, drawn: &[u8], g: Between, c: usize, out: &mut [u8], at: usize) -> usize
-    requires { ⌜ Drawn s (now drawn) g × Within g (place 0 0 c) × (at + 2144 ≤ length (now out)) ⌝ }
-    ensures { λ r. ⌜ Said (now (out .entry)) at (pieces (rowText s (now (drawn .entry)) g c) (g .y .steps + 1)) (now (out .exit)) r
+    requires { ⌜ Drawn s (now drawn) g × (c ≤ g .z .steps) × (at + 2144 ≤ length (now out)) ⌝ }
+    ensures { λ r. ⌜ Said (now (out .entry)) at (pieces (rowIn s (now (drawn .entry)) g c) (g .y .steps + 1)) (now (out .exit)) r
         × (r ≤ at + 2144) ⌝ }
 {
-    let n = g.y.steps + 1;
+    let y = g.y;
+    let n = y.steps + 1;
     let mut next = at;
     for b in 0..n {
-        next = row(s, drawn, g, c, b, out, next);
+        next = say_row(drawn, y.at(b), g.row(s, b, c), out, next);
     }
     next
 }
 
-// The layer after c steps.
-fn layer(s: Sizes, drawn: &[u8], g: Between, c: usize, out: &mut [u8], at: usize) -> usize
-    requires { ⌜ Drawn s (now drawn) g × Within g (place 0 0 c) × (at + 2555 ≤ length (now out)) ⌝ }
-    ensures { λ r. ⌜ Said (now (out .entry)) at (layerText s (now (drawn .entry)) g c) (now (out .exit)) r × (r ≤ at + 2555) ⌝ }
+// The z of a layer, and the x of its columns.
+fn layer_head(z: usize, x: Run, out: &mut [u8], at: usize) -> usize
+    requires { ⌜ OnAxis x 16 × (at + 411 ≤ length (now out)) ⌝ }
+    ensures { λ r. ⌜ Said (now (out .entry)) at (layerHead z x) (now (out .exit)) r × (r ≤ at + 411) ⌝ }
 {
-    let z = g.z;
-    let head = tell(b"  layer z %\n    x     ", &[z.at(c)], out, at);
-    let each = columns(g.x, out, head);
-    let feed = say(b"\n", out, each);
-    rows(s, drawn, g, c, out, feed)
+    let head = tell(b"  layer z %\n    x     ", &[z], out, at);
+    let n = x.steps + 1;
+    let mut next = head;
+    for a in 0..n {
+        next = tell_wide(b"  %", b" %", x.at(a), out, next);
+    }
+    say(b"\n", out, next)
 }
 
 // All layers.
@@ -101,10 +79,12 @@ fn layers(s: Sizes, drawn: &[u8], g: Between, out: &mut [u8], at: usize) -> usiz
     ensures { λ r. ⌜ Said (now (out .entry)) at (pieces (layerText s (now (drawn .entry)) g) (g .z .steps + 1)) (now (out .exit)) r
         × (r ≤ at + 40880) ⌝ }
 {
-    let n = g.z.steps + 1;
+    let z = g.z;
+    let n = z.steps + 1;
     let mut next = at;
     for c in 0..n {
-        next = layer(s, drawn, g, c, out, next);
+        let head = layer_head(z.at(c), g.x, out, next);
+        next = rows(s, drawn, g, c, out, head);
     }
     next
 }
