@@ -1,14 +1,15 @@
 -- Pieces of text said one after another, by a loop: none yet, one more, and all of them. Assumes nothing.
 use mathlib.Core.Path.{_≡_, refl, sym, ap, _∙_, subst}
-use mathlib.Core.List.{List, _++_}
+use mathlib.Core.List.{List, [], _∷_, _++_}
 use Prim.Native.Nat.{ℕ, zero, suc, _+_, _*_, _≤_, _<_}
 use native.Mathlib.Nat.{mul-suc, mul-le-mul-left}
 use native.Mathlib.Numerals.{add-one}
 use native.Mathlib.Omega.{arith}
-use lib.ListN.{length}
-use Rattle.text.specs.Text.{Said}
+use lib.ListN.{length, getD}
+use Rattle.text.specs.Text.{ascii, told, Said}
 use Rattle.text.proofs.Saying.{said-none, said-next, said-size, said-as}
 use Rattle.audit.specs.Words.{pieces}
+use Rattle.audit.specs.Audit.{grantedText}
 
 pub pieces-more : (f : ℕ → List ℕ) (n : ℕ) → pieces f (n + 1) ≡ pieces f n ++ f n
 unfolding pieces
@@ -22,6 +23,14 @@ pieces-same f g (suc n) h = rw (h n (omega arith), pieces-same f g n λ i l. h i
 nothing : (f : ℕ → List ℕ) (old : List ℕ) (at : ℕ) → Said old at (pieces f 0) old at
 unfolding pieces
 nothing f old at = said-none old at
+
+-- the text for a transfer that is granted, from the same nodes
+pub granted-same : (h : ℕ) (l k : List ℕ) → ((i : ℕ) → i < h + 1 → getD l i 0 ≡ getD k i 0) → grantedText h l ≡ grantedText h k
+unfolding grantedText
+granted-same h l k same =
+    ap (λ (t : List ℕ). told (ascii ": granted, hops %, route") (h ∷ []) ++ t ++ ascii "\n")
+    (pieces-same (λ i. told (ascii " %") (getD l i 0 ∷ [])) (λ i. told (ascii " %") (getD k i 0 ∷ [])) (h + 1)
+    (λ i b. ap (λ (n : ℕ). told (ascii " %") (n ∷ [])) (same i b)))
 
 -- n of m pieces have been said from `at` on, each of at most w bytes, and all of at most v
 pub record Saying (f : ℕ → List ℕ) (w v m : ℕ) (old : List ℕ) (at n : ℕ) (new : List ℕ) (next : ℕ) : Type 0 where

@@ -35,7 +35,17 @@ fn say_route(nodes: &[u16], n: usize, out: &mut [u8], at: usize) -> usize
     next
 }
 
-// The hops and the route of a transfer that is granted.
+// The hops and the route.
+fn say_granted(nodes: &[u16], h: usize, out: &mut [u8], at: usize) -> usize
+    requires { ⌜ (h + 1 ≤ length (now nodes)) × (h ≤ 45) × (at + 1057 ≤ length (now out)) ⌝ }
+    ensures { λ r. ⌜ Said (now (out .entry)) at (grantedText h (now (nodes .entry))) (now (out .exit)) r × (r ≤ at + 1057) ⌝ }
+{
+    let hops = tell(b": granted, hops %, route", &[h], out, at);
+    let list = say_route(nodes, h + 1, out, hops);
+    say(b"\n", out, list)
+}
+
+// The text for a transfer that is granted.
 fn granted(
     s: Sizes,
     cells: &[u8],
@@ -51,9 +61,7 @@ fn granted(
 {
     let mut nodes = [0u16; 46];
     route(s, cells, start, end, &mut nodes);
-    let hops = tell(b": granted, hops %, route", &[h], out, at);
-    let list = say_route(&nodes, h + 1, out, hops);
-    say(b"\n", out, list)
+    say_granted(&nodes, h, out, at)
 }
 
 // The refusal in words, and the picture where there is no path.

@@ -17,7 +17,7 @@ ghost use Rattle.routes.specs.Entries.{checkEnds};
 ghost use Rattle.routes.specs.Box.{OnAxis};
 ghost use Rattle.text.specs.Text.{Said};
 ghost use Rattle.audit.specs.Words.{pieces};
-ghost use Rattle.audit.specs.Picture.{Drawn, symbolAt, rowText, rowIn, layerHead, layerText, picture};
+ghost use Rattle.audit.specs.Picture.{Drawn, symbolAt, columnText, rowText, rowIn, layerHead, layerText, picture};
 
 // The symbols of a row of nodes.
 fn row_symbols(drawn: &[u8], row: Run, out: &mut [u8], at: usize) -> usize
@@ -59,18 +59,27 @@ fn rows(s: Sizes, drawn: &[u8], g: Between, c: usize, out: &mut [u8], at: usize)
     next
 }
 
-// The z of a layer, and the x of its columns.
+// The x of each column.
+fn columns(x: Run, out: &mut [u8], at: usize) -> usize
+    requires { ⌜ OnAxis x 16 × (at + 368 ≤ length (now out)) ⌝ }
+    ensures { λ r. ⌜ Said (now (out .entry)) at (pieces (columnText x) (x .steps + 1)) (now (out .exit)) r × (r ≤ at + 368) ⌝ }
+{
+    let n = x.steps + 1;
+    let mut next = at;
+    for a in 0..n {
+        next = tell_wide(b"  %", b" %", x.at(a), out, next);
+    }
+    next
+}
+
+// The z of a layer, and the columns.
 fn layer_head(z: usize, x: Run, out: &mut [u8], at: usize) -> usize
     requires { ⌜ OnAxis x 16 × (at + 411 ≤ length (now out)) ⌝ }
     ensures { λ r. ⌜ Said (now (out .entry)) at (layerHead z x) (now (out .exit)) r × (r ≤ at + 411) ⌝ }
 {
     let head = tell(b"  layer z %\n    x     ", &[z], out, at);
-    let n = x.steps + 1;
-    let mut next = head;
-    for a in 0..n {
-        next = tell_wide(b"  %", b" %", x.at(a), out, next);
-    }
-    say(b"\n", out, next)
+    let each = columns(x, out, head);
+    say(b"\n", out, each)
 }
 
 // All layers.
