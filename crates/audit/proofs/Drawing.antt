@@ -34,7 +34,7 @@ symbols-length m s e = length-table (symbolIn m s e) (nodes (m .sizes))
 
 -- the parts of a picture
 pub picture-is : (m : Map) (s e : ℕ) (u v : Place) (g : Between) (drawn : List ℕ) → u ≡ placeOf (m .sizes) s → v ≡ placeOf (m .sizes) e
-    → g ≡ between u v → drawn ≡ symbols m s e → endsText u v ++ pieces (layerText (m .sizes) drawn g) (g .z .steps + 1) ≡ picture m s e
+    → g ≡ between u v → drawn ≡ symbols m s e → endsText u v g ++ pieces (layerText (m .sizes) drawn g) (g .z .steps + 1) ≡ picture m s e
 unfolding picture
 picture-is m s e u v g drawn is-u is-v is-g is = rw (is, is-g, is-u, is-v)
 

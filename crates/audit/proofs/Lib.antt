@@ -5,4 +5,5 @@ pub mod Drawing
 pub mod Closed
 pub mod Judged
 pub mod Passing
+pub mod Reasons
 pub mod Sample

@@ -5,17 +5,18 @@ use mathlib.Core.Bool.{Bool, true, false, cond}
 use mathlib.Core.List.{List, [], _∷_}
 use Prim.Native.Nat.{ℕ, suc, _+_, _≤_, _<_}
 use native.Mathlib.Omega.{arith}
-use lib.Dec.{eqb}
-use lib.ListN.{length, take, drop, length-drop, drop-of-length-le}
-use lib.Seq.{length-take-le, drop-drop}
+use borrow.Author.Tests.{ltb-true, ltb-false}
+use lib.Dec.{eqb, ltb}
+use lib.ListN.{length, getD, take, drop, length-drop, drop-of-length-le}
+use lib.Seq.{length-take-le, drop-cons, drop-drop}
 use Rattle.mesh.specs.Cells.{firstBad}
 use Rattle.mesh.specs.declared.Sizes.{Sizes}
 use Rattle.mesh.proofs.Answers.{first-le}
 use Rattle.routes.specs.Entries.{verdictAnswer}
 use Rattle.routes.specs.declared.Verdict.{Verdict}
 use Rattle.routes.specs.declared.Verdict.the-variants.{Granted, NotGranted}
-use Rattle.audit.specs.Log.{stops, before, upTo, entryOf}
-use Rattle.audit.specs.Audit.{noPath, plus, judge, tally, lineTotals, intoFirst, linesOf, totalsFrom, Few}
+use Rattle.audit.specs.Log.{stops, before, upTo, intoFirst, linesOf, entryOf}
+use Rattle.audit.specs.Audit.{noPath, plus, judge, tally, lineTotals, totalsFrom, Few}
 use Rattle.audit.specs.declared.Entry.{Entry}
 use Rattle.audit.specs.declared.Entry.the-variants.{Nothing, Transfer, NoPair}
 use Rattle.audit.specs.declared.Stop.the-variants.{Feed}
@@ -46,6 +47,22 @@ lines-from : (l : List ℕ) → 0 < length l → linesOf l ≡ upTo Feed l ∷ l
 lines-from [] h = absurd (omega arith)
 lines-from (b ∷ bs) h = lines-next b bs
 
+-- the lines from a place on
+module _ (text : List ℕ) (at : ℕ) where
+  pub line-next : (line : List ℕ) → line ≡ upTo Feed (drop at text) → at < length text
+      → linesOf (drop at text) ≡ line ∷ linesOf (drop (at + (length line + 1)) text)
+  line-next line is h =
+      let rest = drop at text in
+      let n = before Feed rest in
+      let e : length line ≡ n = ap length is ∙ length-take-le n rest (first-le (λ k. stops Feed) rest) in
+      lines-from rest (omega (arith, length-drop at text))
+      ∙ ap (λ (l : List ℕ). l ∷ linesOf (drop (n + 1) rest)) (sym is)
+      ∙ ap (λ (l : List ℕ). line ∷ linesOf l) (drop-drop (n + 1) at text ∙ ap (λ (k : ℕ). drop (at + (k + 1)) text) (sym e))
+
+  pub no-line : length text ≤ at → linesOf (drop at text) ≡ []
+  unfolding linesOf
+  no-line h = ap linesOf (drop-of-length-le text h)
+
 -- a line ends where the log does, at the latest
 pub line-within : (log line : List ℕ) (at : ℕ) → line ≡ upTo Feed (drop at log) → at ≤ length log → at + length line ≤ length log
 line-within log line at is h =
@@ -53,6 +70,25 @@ line-within log line at is h =
     let n = before Feed rest in
     let k : n ≤ length rest = first-le (λ i. stops Feed) rest in
     omega (arith, ap length is ∙ length-take-le n rest k, length-drop at log)
+
+-- line i of a text, where the lines from a place on are those from line i on
+module _ (text : List ℕ) (at i : ℕ) (ahead : linesOf (drop at text) ≡ drop i (linesOf text)) (left : i < length (linesOf text)) where
+  pub in-text : at < length text
+  in-text = go (ltb at (length text)) refl
+    where
+      go : (t : Bool) → ltb at (length text) ≡ t → at < length text
+      go true e = ltb-true at (length text) e
+      go false e =
+          let none : drop i (linesOf text) ≡ [] = sym ahead ∙ no-line text at (ltb-false at (length text) e) in
+          absurd (omega (arith, length-drop i (linesOf text), ap length none))
+
+  module _ (line : List ℕ) (is : line ≡ upTo Feed (drop at text)) where
+    pub line-passed : linesOf (drop (at + (length line + 1)) text) ≡ drop (i + 1) (linesOf text)
+    line-passed = ap (drop 1) (sym (line-next text at line is in-text) ∙ ahead) ∙ drop-drop 1 i (linesOf text)
+
+    pub line-is : line ≡ getD (linesOf text) i []
+    line-is =
+        ap (λ (l : List (List ℕ)). getD l 0 []) (sym (line-next text at line is in-text) ∙ ahead ∙ drop-cons (linesOf text) i [] left)
 
 pub more : {t : Totals} {n k : ℕ} → Few t n → n ≤ k → Few t k
 more few h = omega (arith, few .lines-le, few .granted-le, few .pathless-le, few .refused-le, few .unread-le)
@@ -63,18 +99,11 @@ module _ (S : Sizes) (cells : List ℕ) where
         → totalsFrom S cells t (linesOf (drop at log))
         ≡ totalsFrom S cells (lineTotals S cells t line) (linesOf (drop (at + (length line + 1)) log))
     unfolding totalsFrom
-    totals-next line is h =
-        let rest = drop at log in
-        let n = before Feed rest in
-        let e : length line ≡ n = ap length is ∙ length-take-le n rest (first-le (λ k. stops Feed) rest) in
-        ap (totalsFrom S cells t) (lines-from rest (omega (arith, length-drop at log)))
-        ∙ ap (λ (l : List ℕ). totalsFrom S cells (lineTotals S cells t l) (linesOf (drop (n + 1) rest))) (sym is)
-        ∙ ap (λ (l : List ℕ). totalsFrom S cells (lineTotals S cells t line) (linesOf l))
-        (drop-drop (n + 1) at log ∙ ap (λ (k : ℕ). drop (at + (k + 1)) log) (sym e))
+    totals-next line is h = ap (totalsFrom S cells t) (line-next log at line is h)
 
     pub totals-end : length log ≤ at → totalsFrom S cells t (linesOf (drop at log)) ≡ t
-    unfolding totalsFrom linesOf
-    totals-end h = ap (λ (l : List ℕ). totalsFrom S cells t (linesOf l)) (drop-of-length-le log h)
+    unfolding totalsFrom
+    totals-end h = ap (totalsFrom S cells t) (no-line log at h)
 
   -- a line adds at most one to each total
   module _ (t : Totals) (n : ℕ) (few : Few t n) where

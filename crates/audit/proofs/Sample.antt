@@ -11,11 +11,11 @@ use Rattle.routes.specs.Differences.{preferred, hops}
 use Rattle.routes.specs.Paths.{mayEnter, mayHop, leadsWithin, leads}
 use Rattle.routes.specs.Offered.{offers, offered, reached}
 use Rattle.routes.specs.Entries.{checkEnds, verdictCheck, verdictAnswer}
-use Rattle.text.specs.Text.{ascii, decimalWithin}
-use Rattle.audit.specs.Log.{blank, digit, readFrom, numberOf, entryOf}
-use Rattle.audit.specs.Words.{pieces, two, reason}
-use Rattle.audit.specs.Picture.{symbolOf, symbols, rowText, columnsText, layerText, placeText, wayText, waysText, endsText, picture}
-use Rattle.audit.specs.Audit.{refusedText, headText, transferText}
+use Rattle.text.specs.Text.{ascii, decimalWithin, told}
+use Rattle.audit.specs.Log.{blank, digit, linesOf, readFrom, numberOf, entryOf}
+use Rattle.audit.specs.Words.{pieces, toldWide, reasons, refusalLine}
+use Rattle.audit.specs.Picture.{symbolOf, symbols, rowText, layerHead, layerText, wayText, endsText, picture}
+use Rattle.audit.specs.Audit.{refusedText, transferText}
 use Rattle.audit.specs.declared.Entry.the-variants.{Nothing, Transfer, NoPair}
 
 -- what is a pair of numbers, what says nothing, and what is neither
@@ -45,6 +45,6 @@ pub case-4 : transferText (sizes 5 5 1) (replicate 7 0 ++ 1 ∷ 0 ∷ 0 ∷ 0 �
     ++ ascii "    y  3    .  .  .  .   nodes 16 to 19\n"
     ++ ascii "    y  4    .  .  .  E   nodes 21 to 24\n"
 unfolding any sum table inRange next faultyCell badCell mayPass mayEnd linked firstBad checkMap preferred hops mayEnter mayHop leadsWithin leads
-    offers offered reached checkEnds verdictCheck verdictAnswer decimalWithin pieces two reason symbolOf symbols rowText columnsText layerText
-    placeText wayText waysText endsText picture refusedText headText
+    offers offered reached checkEnds verdictCheck verdictAnswer decimalWithin told linesOf pieces toldWide reasons refusalLine symbolOf symbols
+    rowText layerHead layerText wayText endsText picture refusedText
 case-4 = refl

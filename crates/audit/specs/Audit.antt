@@ -13,9 +13,9 @@ use Rattle.routes.specs.Offered.{route}
 use Rattle.routes.specs.Entries.{verdictAnswer}
 use Rattle.routes.specs.declared.Verdict.{Verdict}
 use Rattle.routes.specs.declared.Verdict.the-variants.{Granted, NotGranted}
-use Rattle.text.specs.Text.{ascii, decimal}
-use Rattle.audit.specs.Log.{entryOf}
-use Rattle.audit.specs.Words.{pieces, spaced, reason}
+use Rattle.text.specs.Text.{ascii, told}
+use Rattle.audit.specs.Log.{linesOf, entryOf}
+use Rattle.audit.specs.Words.{pieces, refusalLine}
 use Rattle.audit.specs.Picture.{picture}
 use Rattle.audit.specs.declared.Entry.{Entry}
 use Rattle.audit.specs.declared.Entry.the-variants.{Nothing, Transfer, NoPair}
@@ -23,29 +23,27 @@ use Rattle.audit.specs.declared.Totals.{Totals}
 
 -- "granted with hops and the route"
 unfoldable pub grantedText : ℕ → List ℕ → List ℕ
-grantedText h nodes = (ascii ": granted, hops " ++ decimal h) ++ ascii ", route" ++ pieces (λ i. spaced (getD nodes i 0)) (h + 1) ++ ascii "\n"
+grantedText h nodes =
+    told (ascii ": granted, hops %, route") (h ∷ []) ++ pieces (λ i. told (ascii " %") (getD nodes i 0 ∷ [])) (h + 1) ++ ascii "\n"
 
 -- "or the refusal with its reason in words; for `no path` then a picture"
 abbrev pub noPath : Refusal → Bool
 noPath r = eqb (refusalNo r) 10
 
 unfoldable pub refusedText : Sizes → List ℕ → ℕ → ℕ → Refusal → List ℕ
-refusedText S cells s e r = ascii ": refused " ++ reason r ++ ascii "\n" ++ cond (noPath r) (picture (mapOf S cells) s e) []
+refusedText S cells s e r = refusalLine (ascii ": refused ") r ++ cond (noPath r) (picture (mapOf S cells) s e) []
 
 abbrev pub verdictText : Sizes → List ℕ → ℕ → ℕ → Verdict → List ℕ
 verdictText S cells s e (Granted h o) = grantedText h (route (mapOf S cells) (placeOf S e) (placeOf S s))
 verdictText S cells s e (NotGranted r) = refusedText S cells s e r
 
 -- a transfer, on line k
-unfoldable pub headText : ℕ → ℕ → ℕ → List ℕ
-headText k s e = (ascii "line " ++ decimal k) ++ (ascii ": " ++ decimal s) ++ (ascii " to " ++ decimal e)
-
 abbrev pub transferText : Sizes → List ℕ → ℕ → ℕ → ℕ → List ℕ
-transferText S cells k s e = headText k s e ++ verdictText S cells s e (verdictAnswer S cells s e)
+transferText S cells k s e = told (ascii "line %: % to %") (k ∷ s ∷ e ∷ []) ++ verdictText S cells s e (verdictAnswer S cells s e)
 
 -- "A line that is no pair of numbers is reported with its line number"
-unfoldable pub noPairText : ℕ → List ℕ
-noPairText k = (ascii "line " ++ decimal k) ++ ascii ": no pair of numbers\n"
+abbrev pub noPairText : ℕ → List ℕ
+noPairText k = told (ascii "line %: no pair of numbers\n") (k ∷ [])
 
 abbrev pub entryText : Sizes → List ℕ → ℕ → Entry → List ℕ
 entryText S cells k Nothing = []
@@ -78,15 +76,6 @@ lineText S cells t line = entryText S cells (t .lines + 1) (entryOf line)
 unfoldable pub lineTotals : Sizes → List ℕ → Totals → List ℕ → Totals
 lineTotals S cells t line = tally S cells t (entryOf line)
 
--- the lines of a log: a line feed ends a line, and the last may lack it
-abbrev pub intoFirst : ℕ → List (List ℕ) → List (List ℕ)
-intoFirst b [] = (b ∷ []) ∷ []
-intoFirst b (l ∷ ls) = (b ∷ l) ∷ ls
-
-unfoldable pub linesOf : List ℕ → List (List ℕ)
-linesOf [] = []
-linesOf (b ∷ bs) = cond (eqb b 10) ([] ∷ linesOf bs) (intoFirst b (linesOf bs))
-
 -- the totals of a log
 unfoldable pub totalsFrom : Sizes → List ℕ → Totals → List (List ℕ) → Totals
 totalsFrom S cells t [] = t
@@ -99,14 +88,10 @@ abbrev pub totalsOf : Sizes → List ℕ → List ℕ → Totals
 totalsOf S cells log = totalsFrom S cells nothingYet (linesOf log)
 
 -- "It ends with totals."
-abbrev pub grantedTotals : Totals → List ℕ
-grantedTotals t = (ascii "totals: lines " ++ decimal (t .lines)) ++ (ascii ", granted " ++ decimal (t .granted))
-
-abbrev pub refusedTotals : Totals → List ℕ
-refusedTotals t = (ascii ", refused for no path " ++ decimal (t .pathless)) ++ (ascii ", refused otherwise " ++ decimal (t .refused))
-
-unfoldable pub totalsText : Totals → List ℕ
-totalsText t = grantedTotals t ++ refusedTotals t ++ (ascii ", no pair of numbers " ++ decimal (t .unread)) ++ ascii "\n"
+abbrev pub totalsText : Totals → List ℕ
+totalsText t =
+    told (ascii "totals: lines %, granted %, refused for no path %, refused otherwise %, no pair of numbers %\n")
+    (t .lines ∷ t .granted ∷ t .pathless ∷ t .refused ∷ t .unread ∷ [])
 
 -- no total is above n
 pub record Few (t : Totals) (n : ℕ) : Type 0 where

@@ -40,6 +40,15 @@ past stop text = drop (before stop text) text
 abbrev pub nextWord : List ℕ → List ℕ
 nextWord text = past Word (past Blank text)
 
+-- the lines of a log: a line feed ends a line, and the last may lack it
+abbrev pub intoFirst : ℕ → List (List ℕ) → List (List ℕ)
+intoFirst b [] = (b ∷ []) ∷ []
+intoFirst b (l ∷ ls) = (b ∷ l) ∷ ls
+
+unfoldable pub linesOf : List ℕ → List (List ℕ)
+linesOf [] = []
+linesOf (b ∷ bs) = cond (eqb b 10) ([] ∷ linesOf bs) (intoFirst b (linesOf bs))
+
 -- a decimal number, digit by digit from the left, after those that say n: none where a byte is no digit, or the number leaves 32 bits
 unfoldable pub readFrom : ℕ → List ℕ → Read
 readFrom n [] = Number n

@@ -7,16 +7,16 @@ use Prim.Native.Nat.{ℕ, _+_}
 use lib.Dec.{eqb}
 use lib.ListN.{length, getD}
 use Rattle.mesh.specs.Tools.{one, table}
-use Rattle.mesh.specs.Mesh.{InRange, place, nodes, number, placeOf}
+use Rattle.mesh.specs.Mesh.{InRange, nodes, placeOf}
 use Rattle.mesh.specs.Cells.{Map, mayPass}
 use Rattle.mesh.specs.declared.Sizes.{Sizes}
 use Rattle.mesh.specs.declared.Place.{Place}
 use Rattle.routes.specs.Offered.{reached}
-use Rattle.routes.specs.Box.{between, gone, reach, Held}
+use Rattle.routes.specs.Box.{between, gone, rowRun, Held}
 use Rattle.routes.specs.declared.Run.{Run}
 use Rattle.routes.specs.declared.Between.{Between}
-use Rattle.text.specs.Text.{ascii, decimal}
-use Rattle.audit.specs.Words.{pieces, two}
+use Rattle.text.specs.Text.{ascii, told}
+use Rattle.audit.specs.Words.{pieces, toldWide}
 
 -- the symbol of node k: `S` the start s, `E` the end e, `o` reached, `.` not reached, `#` not usable
 unfoldable pub symbolOf : ℕ → ℕ → ℕ → ℕ → ℕ → ℕ
@@ -34,52 +34,40 @@ pub record Drawn (S : Sizes) (drawn : List ℕ) (g : Between) : Type 0 where
   pub whole : length drawn ≡ nodes S
   pub held : Held S g
 
--- the symbol after a, b and c steps from the start
-abbrev pub symbolAt : Sizes → List ℕ → Between → ℕ → ℕ → ℕ → List ℕ
-symbolAt S drawn g c b a = ascii "  " ++ getD drawn (number S (reach g (place a b c))) 0 ∷ []
-
 -- a row: its y, its symbols, its first and its last node
-abbrev pub nodesText : ℕ → ℕ → List ℕ
-nodesText k l = (ascii "   nodes " ++ decimal k) ++ (ascii " to " ++ decimal l) ++ ascii "\n"
+abbrev pub symbolAt : List ℕ → Run → ℕ → List ℕ
+symbolAt drawn row a = ascii "  " ++ getD drawn (gone row a) 0 ∷ []
 
-abbrev pub yText : ℕ → List ℕ
-yText y = ascii "    y " ++ two y ++ ascii "  "
+unfoldable pub rowText : List ℕ → ℕ → Run → List ℕ
+rowText drawn y row =
+    toldWide (ascii "    y  %  ") (ascii "    y %  ") y ++ pieces (symbolAt drawn row) (row .steps + 1)
+    ++ told (ascii "   nodes % to %\n") (row .from ∷ gone row (row .steps) ∷ [])
 
-unfoldable pub rowText : Sizes → List ℕ → Between → ℕ → ℕ → List ℕ
-rowText S drawn g c b =
-    yText (gone (g .y) b) ++ pieces (symbolAt S drawn g c b) (g .x .steps + 1)
-    ++ nodesText (number S (reach g (place 0 b c))) (number S (reach g (place (g .x .steps) b c)))
+abbrev pub rowIn : Sizes → List ℕ → Between → ℕ → ℕ → List ℕ
+rowIn S drawn g c b = rowText drawn (gone (g .y) b) (rowRun S g b c)
 
--- the x of the columns
-abbrev pub columnText : ℕ → List ℕ
-columnText x = ascii " " ++ two x
+-- a layer: its z, the x of its columns, its rows
+abbrev pub columnText : Run → ℕ → List ℕ
+columnText x a = toldWide (ascii "  %") (ascii " %") (gone x a)
 
-unfoldable pub columnsText : Run → List ℕ
-columnsText x = ascii "    x     " ++ pieces (λ a. columnText (gone x a)) (x .steps + 1) ++ ascii "\n"
-
--- a layer: its z, the columns, the rows
-abbrev pub layerHead : Between → ℕ → List ℕ
-layerHead g c = (ascii "  layer z " ++ decimal (gone (g .z) c)) ++ ascii "\n" ++ columnsText (g .x)
+unfoldable pub layerHead : ℕ → Run → List ℕ
+layerHead z x = told (ascii "  layer z %\n    x     ") (z ∷ []) ++ pieces (columnText x) (x .steps + 1) ++ ascii "\n"
 
 unfoldable pub layerText : Sizes → List ℕ → Between → ℕ → List ℕ
-layerText S drawn g c = layerHead g c ++ pieces (rowText S drawn g c) (g .y .steps + 1)
+layerText S drawn g c = layerHead (gone (g .z) c) (g .x) ++ pieces (rowIn S drawn g c) (g .y .steps + 1)
 
--- the ends, and the directions towards the end
-unfoldable pub placeText : Place → List ℕ
-placeText p = (ascii "(" ++ decimal (p .x)) ++ (ascii ", " ++ decimal (p .y)) ++ (ascii ", " ++ decimal (p .z)) ++ ascii ")"
+-- the ends, and the directions towards the end: `+` or `-` and the axis
+unfoldable pub wayText : Run → ℕ → List ℕ
+wayText r axis = cond (eqb (r .steps) 0) [] (32 ∷ cond (r .down) 45 43 ∷ axis ∷ [])
 
-unfoldable pub wayText : Run → List ℕ → List ℕ → List ℕ
-wayText r up down = cond (eqb (r .steps) 0) [] (cond (r .down) down up)
-
-unfoldable pub waysText : Between → List ℕ
-waysText g = wayText (g .x) (ascii " +x") (ascii " -x") ++ wayText (g .y) (ascii " +y") (ascii " -y") ++ wayText (g .z) (ascii " +z") (ascii " -z")
-
-unfoldable pub endsText : Place → Place → List ℕ
-endsText u v =
-    ascii "  S is at " ++ placeText u ++ ascii ", E at " ++ placeText v ++ ascii "; steps towards the end:" ++ waysText (between u v) ++ ascii "\n"
+unfoldable pub endsText : Place → Place → Between → List ℕ
+endsText u v g =
+    told (ascii "  S is at (%, %, %), E at (%, %, %); steps towards the end:") (u .x ∷ u .y ∷ u .z ∷ v .x ∷ v .y ∷ v .z ∷ [])
+    ++ wayText (g .x) 120 ++ wayText (g .y) 121 ++ wayText (g .z) 122 ++ ascii "\n"
 
 unfoldable pub picture : Map → ℕ → ℕ → List ℕ
 picture m s e =
     let u = placeOf (m .sizes) s in
     let v = placeOf (m .sizes) e in
-    endsText u v ++ pieces (layerText (m .sizes) (symbols m s e) (between u v)) (between u v .z .steps + 1)
+    let g = between u v in
+    endsText u v g ++ pieces (layerText (m .sizes) (symbols m s e) g) (g .z .steps + 1)

@@ -1,37 +1,49 @@
 // What stands above an audit: the mesh, how its nodes are numbered, and how to read a picture.
 use mesh::Sizes;
 use text::say;
-use text::say_both;
-ghost use Prim.Native.Nat.{_+_, _≤_};
+use text::tell;
+ghost use Prim.Native.Nat.{_≤_};
 ghost use lib.ListN.{length};
 ghost use Rattle.text.specs.Text.{Said};
-ghost use Rattle.audit.specs.Heading.{sizesText, numbersText, headingText};
+ghost use Rattle.audit.specs.Heading.{headingText, topText};
 
-// The sizes.
-fn say_sizes(s: Sizes, out: &mut [u8]) -> usize
-    requires { ⌜ 256 ≤ length (now out) ⌝ }
-    ensures { λ r. ⌜ Said (now (out .entry)) 0 (sizesText s) (now (out .exit)) r × (r ≤ 71) ⌝ }
+fn heading(s: Sizes, out: &mut [u8]) -> usize
+    requires { ⌜ 819 ≤ length (now out) ⌝ }
+    ensures { λ r. ⌜ Said (now (out .entry)) 0 (headingText s) (now (out .exit)) r × (r ≤ 819) ⌝ }
 {
-    let w = say_both(b"mesh ", s.w, out, 0);
-    let h = say_both(b" x ", s.h, out, w);
-    say_both(b" x ", s.d, out, h)
+    tell(
+        b"mesh % x % x %; the node at (x, y, z) has the number x + % * (y + % * z)
+
+A direct route goes from neighbour to neighbour through nodes that can be used, and each step leads towards the end.
+Where there is none, a picture shows the nodes between start and end:
+
+  S  the start                                 #  cannot be used
+  o  reached by steps towards the end          .  not reached
+  E  the end
+
+It is drawn from the start: each step towards the end goes to the right, down, or to the same place in the next layer.
+Why it is a proof: each such step from S or from an o leads to an o or to a #. So whoever steps only towards the end
+stays on the nodes marked o, and E is not one of them: no direct route exists.
+
+",
+        &[s.w, s.h, s.d, s.w, s.h],
+        out,
+        0,
+    )
 }
 
-// The number of a node.
-fn say_numbers(s: Sizes, out: &mut [u8], at: usize) -> usize
-    requires { ⌜ at + 98 ≤ length (now out) ⌝ }
-    ensures { λ r. ⌜ Said (now (out .entry)) at (numbersText s) (now (out .exit)) r × (r ≤ at + 98) ⌝ }
+// All that stands above the lines of the log, which may be too long.
+pub fn top(s: Sizes, long: bool, out: &mut [u8]) -> usize
+    requires { ⌜ 875 ≤ length (now out) ⌝ }
+    ensures { λ r. ⌜ Said (now (out .entry)) 0 (topText s long) (now (out .exit)) r × (r ≤ 875) ⌝ }
 {
-    let w = say_both(b"; the node at (x, y, z) has the number x + ", s.w, out, at);
-    let h = say_both(b" * (y + ", s.h, out, w);
-    say(b" * z)\n\n", out, h)
-}
-
-// Both.
-pub fn heading(s: Sizes, out: &mut [u8]) -> usize
-    requires { ⌜ 256 ≤ length (now out) ⌝ }
-    ensures { λ r. ⌜ Said (now (out .entry)) 0 (headingText s) (now (out .exit)) r × (r ≤ 256) ⌝ }
-{
-    let sizes = say_sizes(s, out);
-    say_numbers(s, out, sizes)
+    let next = heading(s, out);
+    if long {
+        return say(
+            b"the log is longer than 65536 bytes: none of it was read\n",
+            out,
+            next,
+        );
+    }
+    next
 }

@@ -1,7 +1,6 @@
 // The audit of a log of transfers on a map: the log read line by line, and the text for each transfer, proved byte by byte.
 
 pub mod auditing;
-pub mod columns;
 pub mod counting;
 pub mod ends;
 pub mod heading;

@@ -3,9 +3,11 @@ use crate::Entry;
 use crate::Read;
 use crate::Stop;
 ghost use mathlib.Core.Path.{_≡_};
-ghost use Prim.Native.Nat.{_≤_};
-ghost use lib.ListN.{length};
-ghost use Rattle.audit.specs.Log.{blank, digit, stops, before, upTo, past, nextWord, numberOf, entryOf};
+ghost use mathlib.Core.List.{[]};
+ghost use Prim.Native.Nat.{_<_, _≤_};
+ghost use lib.ListN.{length, getD, drop};
+ghost use Rattle.audit.specs.Log.{blank, digit, stops, before, upTo, past, nextWord, linesOf, numberOf, entryOf};
+ghost use Rattle.audit.specs.declared.Stop.the-variants.{Feed};
 
 // Does the byte part words?
 fn blank(b: u8) -> bool
@@ -65,6 +67,26 @@ fn past(stop: Stop, text: &[u8]) -> &[u8]
 {
     let n = before(stop, text);
     &text[n..]
+}
+
+// The line that begins at a place.
+pub fn line_from(text: &[u8], at: usize) -> &[u8]
+    requires { ⌜ at ≤ length (now text) ⌝ }
+    ensures { λ r. ⌜ now r ≡ upTo Feed (drop at (now (text .entry))) ⌝ }
+{
+    up_to(Stop::Feed, &text[at..])
+}
+
+// Line k of a text, the first being line 0.
+pub fn line_of(text: &[u8], k: usize) -> &[u8]
+    requires { ⌜ k < length (linesOf (now text)) ⌝ }
+    ensures { λ r. ⌜ (now r ≡ getD (linesOf (now (text .entry))) k []) × (length (now r) ≤ length (now (text .entry))) ⌝ }
+{
+    let mut at = 0;
+    for i in 0..k {
+        at += line_from(text, at).len() + 1;
+    }
+    line_from(text, at)
 }
 
 // From one word to the next.

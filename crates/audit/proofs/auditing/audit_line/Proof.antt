@@ -50,17 +50,18 @@ returns-2 c =
 returns-3 : tie.Need-returns-3
 returns-3 c =
     let said = c .before .before .before in
-    let none = said .before .before in
+    let none = said .before .before .before .before in
     let e = none .before .before in
     let a = e .before .before .before .before .before .args in
     let is = sym (e .entry .ensures) ∙ none .enum-told2 .given .1 in (
       c .plus2 .ensures ∙ line-totals (a .s) (now (a .cells)) (a .t) (now (a .line)) NoPair is,
-      said-as (line-text (a .s) (now (a .cells)) (a .t) (now (a .line)) NoPair is) (said .no-pair .ensures .0),
-      omega (arith, said .no-pair .ensures .1),
+      said-as (line-text (a .s) (now (a .cells)) (a .t) (now (a .line)) NoPair is) (said .tell .ensures .0),
+      omega (arith, said .tell .ensures .1),
     )
 
 pub audit-line-spec : {M : Type 1} → statement M
 audit-line-spec =
     tie.close (tie.spec (λ c. search needs) (λ c κs. search needs) (λ c. search needs) (λ c κs. search needs)
     (λ c. search needs) (λ c κs. search needs) (λ c κs. search needs) (λ c κs. search needs) (λ c. search needs)
-    (λ c κs. search needs) (λ c κs. search needs) returns (λ c. search needs) returns-2 (λ c. search needs) returns-3)
+    (λ c. search needs) (λ c. search needs) (λ c κs. search needs) (λ c κs. search needs) returns (λ c. search needs)
+    returns-2 (λ c. search needs) returns-3)

@@ -6,7 +6,8 @@ use borrow.Author.Needs.{needs}
 use denote.Ref.{now}
 use lib.ListN.{length, drop}
 use lib.Seq.{length-take-le}
-use Rattle.audit.specs.Audit.{linesOf, totalsFrom, totalsOf, Few}
+use Rattle.audit.specs.Log.{linesOf}
+use Rattle.audit.specs.Audit.{totalsFrom, totalsOf, Few}
 use Rattle.audit.specs.declared.Totals.{Totals}
 use Rattle.audit.proofs.Passing.{more, line-within, totals-next, totals-end, few-line}
 use Rattle.audit.proofs.auditing.audit_log.Statement.{statement}
@@ -32,9 +33,6 @@ fits c =
     let l = c .before .before .before .before in
     omega (arith, c .audit-line .ensures .2, c .audit-line .kept .1 .1 .1 .1 .0, l .loop .inv .2, l .before .before .before .before .before .pre .1)
 
-none-requires : tie.Need-none-requires Inv-loop μ-loop
-none-requires c κs = search needs
-
 loop-holds : tie.Need-loop-holds Inv-loop μ-loop
 loop-holds c =
     let a = c .before .before .before .before .args in (
@@ -44,34 +42,22 @@ loop-holds c =
       ap (λ (t : Totals). totalsFrom (a .s) (now (a .cells)) t (linesOf (now (a .log)))) (c .none .ensures),
     )
 
-line-from-requires : tie.Need-line-from-requires Inv-loop μ-loop
-line-from-requires c κs = omega arith
-
 audit-line-requires : tie.Need-audit-line-requires Inv-loop μ-loop
 audit-line-requires c κs =
     let l = c .before .before .before in
     let s = l .before .before .before .before .before .pre in
     (more (l .loop .inv .1) (omega (arith, s .0, c .before .before .loop-test .taken)), omega (arith, s .1, l .loop .inv .2))
 
-slice-reshare-prefix-write-all : tie.Need-slice-reshare-prefix-write-all Inv-loop μ-loop
-slice-reshare-prefix-write-all c = fits (c .before .before .before)
+print-requires : tie.Need-print-requires Inv-loop μ-loop
+print-requires c κs = fits (c .before .before .before .before)
 
-slice-aggregate-write-all : tie.Need-slice-aggregate-write-all Inv-loop μ-loop
-slice-aggregate-write-all c =
-    let d = c .before .before .before .before in
-    sym (length-take-le (d .audit-line .result .used) (d .audit-line .last .1 .1 .1 .1 .0) (fits d))
-
-write-all-requires : tie.Need-write-all-requires Inv-loop μ-loop
-write-all-requires c κs = search needs
-
-add-at : tie.Need-add-at Inv-loop μ-loop
-add-at c = omega (arith, within (c .before .before .before .before .before .before .before), c .before .before .before .before .before .before .before .before .before .before .before .before .before .before .pre .0)
-
-add-at-2 : tie.Need-add-at-2 Inv-loop μ-loop
-add-at-2 c = omega (arith, within (c .before .before .before .before .before .before .before), c .before .before .before .before .before .before .before .before .before .before .before .before .before .before .pre .0)
-
-loop-less : tie.Need-loop-less Inv-loop μ-loop
-loop-less c = omega arith
+-- the next place fits
+small : (c : tie.After-print Inv-loop μ-loop) →
+    let line = c .before .before .before .before .before .before .before in
+    line .before .before .loop .at + length (now (line .line-from .result)) ≤ 65536
+small c =
+    let line = c .before .before .before .before .before .before .before in
+    omega (arith, within line, line .before .before .before .before .before .before .before .pre .0)
 
 loop-again : tie.Need-loop-again Inv-loop μ-loop
 loop-again c =
@@ -90,9 +76,6 @@ loop-again c =
           ∙ l .loop .inv .3,
     )
 
-same-length : tie.Need-same-length Inv-loop μ-loop
-same-length c = c .before .loop .inv .2
-
 returns : tie.Need-returns Inv-loop μ-loop
 returns c =
     let l = c .before in
@@ -101,20 +84,5 @@ returns c =
 
 pub audit-log-spec : {M : Type 1} → statement M
 audit-log-spec =
-    tie.close
-    (tie.spec
-    Inv-loop
-    μ-loop
-    none-requires
-    loop-holds
-    line-from-requires
-    audit-line-requires
-    slice-reshare-prefix-write-all
-    slice-aggregate-write-all
-    write-all-requires
-    add-at
-    add-at-2
-    loop-less
-    loop-again
-    same-length
-    returns)
+    tie.close (tie.spec Inv-loop μ-loop (λ c κs. search needs) loop-holds (λ c κs. omega arith) audit-line-requires print-requires
+    (λ c. omega (arith, small c)) (λ c. omega (arith, small c)) (λ c. omega arith) loop-again (λ c. omega arith) returns)

@@ -1,19 +1,12 @@
--- `audit::heading::heading` meets its contract. Assumes nothing.
-use native.Mathlib.Omega.{arith}
-use Rattle.audit.specs.Heading.{headingText}
-use Rattle.audit.proofs.Pieces.{said-then}
+-- `audit::heading::heading` meets its contract: the form is that of the definition. Assumes nothing.
 use borrow.Author.Needs.{needs}
+use Rattle.audit.specs.Heading.{headingForm}
 use Rattle.audit.proofs.heading.heading.Statement.{statement}
 use Rattle.audit.proofs.heading.heading.Tie as tie
 
 returns : tie.Need-returns
-unfolding headingText
-returns c =
-    let numbers = c .before .before in
-    let sizes = numbers .before .before .before .before in
-    let said = said-then 71 98 (omega (arith, sizes .before .before .before .pre))
-    (sizes .say-sizes .ensures .0, omega (arith, sizes .say-sizes .ensures .1)) (numbers .say-numbers .ensures) in
-    (said .0, omega (arith, said .1))
+unfolding headingForm
+returns c = c .before .before .tell .ensures
 
 pub heading-spec : {M : Type 1} → statement M
-heading-spec = tie.close (tie.spec (λ c κs. search needs) (λ c κs. search needs) (λ c. search needs) returns)
+heading-spec = tie.close (tie.spec (λ c. search needs) (λ c. search needs) (λ c κs. search needs) (λ c. search needs) returns)

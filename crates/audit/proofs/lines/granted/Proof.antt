@@ -1,19 +1,17 @@
--- `audit::lines::granted` meets its contract. Assumes nothing.
-use mathlib.Core.Path.{_≡_, refl, ap, _∙_}
+-- `audit::lines::granted` meets its contract: the nodes written are those of the route. Assumes nothing.
+use mathlib.Core.Path.{refl, ap, _∙_}
 use mathlib.Core.List.{List}
-use Prim.Native.Nat.{ℕ, _+_, _≤_, _<_}
+use Prim.Native.Nat.{ℕ, _≤_}
 use native.Mathlib.Omega.{arith}
+use borrow.Author.Needs.{needs}
 use denote.Ref.{now}
 use lib.ListN.{getD, replicate}
 use Rattle.mesh.specs.Mesh.{placeOf}
 use Rattle.mesh.specs.Cells.{mapOf}
 use Rattle.routes.specs.Offered.{route}
 use Rattle.text.proofs.Saying.{said-as}
-use Rattle.audit.specs.Words.{spaced}
-use Rattle.audit.specs.Audit.{grantedText}
 use Rattle.audit.proofs.Judged.{short, route-at}
-use Rattle.audit.proofs.Pieces.{pieces-same, said-exact, said-then}
-use borrow.Author.Needs.{needs}
+use Rattle.audit.proofs.Pieces.{granted-same}
 use Rattle.audit.proofs.lines.granted.Statement.{statement}
 use Rattle.audit.proofs.lines.granted.Tie as tie
 
@@ -24,53 +22,24 @@ few c =
     let a = s .args in
     omega (arith, s .pre .1, short (a .s) (now (a .cells)) (a .start) (a .end) (s .pre .0))
 
--- the nodes written are those of the route
-nodes-are : (c : tie.After-route) →
-    let a = c .before .before .before .before .args in
-    (i : ℕ) → i < a .h + 1
-    → spaced (getD (c .route .last .1 .1 .1 .1 .0) i 0)
-    ≡ spaced (getD (route (mapOf (a .s) (now (a .cells))) (placeOf (a .s) (a .end)) (placeOf (a .s) (a .start))) i 0)
-nodes-are c i l =
-    let s = c .before .before .before .before in
-    let a = s .args in
-    ap spaced
-    (ap (λ (x : List ℕ). getD x i 0) (c .route .ensures .1)
-    ∙ route-at (a .s) (now (a .cells)) (a .start) (a .end) (s .pre .0) (replicate 46 0) refl i (omega (arith, s .pre .1)))
-
-add-say-route : tie.Need-add-say-route
-add-say-route c = omega (arith, few (c .before .before .before .before .before .before .before .before .before .before .before .before))
-
-say-route-requires : tie.Need-say-route-requires
-say-route-requires c κs =
-    let word = c .before .before .before .before in
-    let hops = word .before .before .before .before .before in
-    let written = hops .before .before .before .before in
-    let s = written .before .before .before .before in (
-      omega (arith, few written, written .route .kept .1 .1 .1 .1 .0),
-      omega (arith, few written),
-      omega (arith, s .pre .2, word .say .ensures .place, hops .say-both .ensures .1, word .say .kept .1 .0, hops .say-both .kept .1 .1 .0),
-    )
+say-granted-requires : tie.Need-say-granted-requires
+say-granted-requires c κs =
+    let written = c .before .before .before in
+    (omega (arith, few written, written .route .kept .1 .1 .1 .1 .0), few written, search needs)
 
 returns : tie.Need-returns
-unfolding grantedText
 returns c =
-    let feed = c .before .before in
-    let list = feed .before .before .before .before .before in
-    let word = list .before .before .before .before .before in
-    let hops = word .before .before .before .before .before in
-    let written = hops .before .before .before .before in
+    let said = c .before .before in
+    let written = said .before .before .before .before in
     let s = written .before .before .before .before in
     let a = s .args in
-    let fits = s .pre .2 in
-    let nodes = pieces-same (λ i. spaced (getD (written .route .last .1 .1 .1 .1 .0) i 0))
-    (λ i. spaced (getD (route (mapOf (a .s) (now (a .cells))) (placeOf (a .s) (a .end)) (placeOf (a .s) (a .start))) i 0)) (a .h + 1)
-    (nodes-are written) in
-    let one = said-then 36 7 (omega (arith, fits)) (hops .say-both .ensures) (said-exact (word .say .ensures)) in
-    let two = said-then 43 966 (omega (arith, fits)) one (said-as nodes (list .say-route .ensures .0), list .say-route .ensures .1) in
-    said-then 1009 1 (omega (arith, fits)) two (said-exact (feed .say2 .ensures))
+    let same = granted-same (a .h) (written .route .last .1 .1 .1 .1 .0)
+    (route (mapOf (a .s) (now (a .cells))) (placeOf (a .s) (a .end)) (placeOf (a .s) (a .start)))
+    (λ i l.
+    ap (λ (x : List ℕ). getD x i 0) (written .route .ensures .1)
+    ∙ route-at (a .s) (now (a .cells)) (a .start) (a .end) (s .pre .0) (replicate 46 0) refl i (omega (arith, s .pre .1))) in
+    (said-as same (said .say-granted .ensures .0), said .say-granted .ensures .1)
 
 pub granted-spec : {M : Type 1} → statement M
 granted-spec =
-    tie.close (tie.spec (λ c. search needs) (λ c κs. search needs) (λ c. search needs) (λ c κs. search needs)
-    (λ c. search needs) (λ c κs. search needs) (λ c. search needs) add-say-route say-route-requires (λ c. search needs)
-    (λ c κs. search needs) (λ c. search needs) returns)
+    tie.close (tie.spec (λ c. search needs) (λ c κs. search needs) (λ c. search needs) say-granted-requires (λ c. search needs) returns)

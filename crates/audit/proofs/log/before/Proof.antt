@@ -21,12 +21,6 @@ abbrev μ-loop : tie.MeasureT-loop
 loop-holds : tie.Need-loop-holds Inv-loop μ-loop
 loop-holds c = (omega arith, λ k h. absurd (omega arith))
 
-shared-slice-read-stops : tie.Need-shared-slice-read-stops Inv-loop μ-loop
-shared-slice-read-stops c = omega arith
-
-stops-requires : tie.Need-stops-requires Inv-loop μ-loop
-stops-requires c κs = search needs
-
 returns : tie.Need-returns Inv-loop μ-loop
 returns c =
     let l = c .before .before .before .before in
@@ -35,12 +29,6 @@ returns c =
           (λ h. sym (c .before .stops .ensures) ∙ c .if1 .taken)),
       l .loop .inv .0,
     )
-
-add-i : tie.Need-add-i Inv-loop μ-loop
-add-i c = omega arith
-
-loop-less : tie.Need-loop-less Inv-loop μ-loop
-loop-less c = omega arith
 
 loop-again : tie.Need-loop-again Inv-loop μ-loop
 loop-again c =
@@ -60,15 +48,5 @@ returns-2 c =
 
 pub before-spec : {M : Type 1} → statement M
 before-spec =
-    tie.close
-    (tie.spec
-    Inv-loop
-    μ-loop
-    loop-holds
-    shared-slice-read-stops
-    stops-requires
-    returns
-    add-i
-    loop-less
-    loop-again
-    returns-2)
+    tie.close (tie.spec Inv-loop μ-loop loop-holds (λ c. omega arith) (λ c κs. search needs) returns
+    (λ c. omega arith) (λ c. omega arith) loop-again returns-2)

@@ -40,41 +40,17 @@ returns c = empty (now (c .before .before .args .word)) (c .if1 .taken)
 loop-holds : tie.Need-loop-holds Inv-loop μ-loop
 loop-holds c = (omega arith, omega arith, started (now (c .before .before .args .word)) (c .if1 .left))
 
-shared-slice-read-b : tie.Need-shared-slice-read-b Inv-loop μ-loop
-shared-slice-read-b c = omega arith
-
-digit-requires : tie.Need-digit-requires Inv-loop μ-loop
-digit-requires c κs = search needs
-
 returns-2 : tie.Need-returns-2 Inv-loop μ-loop
 returns-2 c =
     let l = c .before .before .before .before in
     let w = now (l .before .before .before .args .word) in
     sym (no-digit w (l .loop .i) (l .loop .n) (omega arith) (sym (c .before .digit .ensures) ∙ not-true _ (c .if2 .taken))) ∙ l .loop .inv .2
 
-mul-n : tie.Need-mul-n Inv-loop μ-loop
-mul-n c = omega arith
-
-sub-n : tie.Need-sub-n Inv-loop μ-loop
-sub-n c = omega (arith, digit-bounds _ (is-digit c))
-
-cast-n : tie.Need-cast-n Inv-loop μ-loop
-cast-n c = omega (arith, digit-bounds _ (is-digit c))
-
-add-n : tie.Need-add-n Inv-loop μ-loop
-add-n c = omega (arith, digit-bounds _ (is-digit c))
-
 returns-3 : tie.Need-returns-3 Inv-loop μ-loop
 returns-3 c =
     let l = c .before .before .before .before .before in
     let w = now (l .before .before .before .args .word) in
     sym (too-large w (l .loop .i) (l .loop .n) (omega arith) (is-digit (c .before)) (c .if3 .taken)) ∙ l .loop .inv .2
-
-add-i : tie.Need-add-i Inv-loop μ-loop
-add-i c = omega arith
-
-loop-less : tie.Need-loop-less Inv-loop μ-loop
-loop-less c = omega arith
 
 loop-again : tie.Need-loop-again Inv-loop μ-loop
 loop-again c =
@@ -92,21 +68,7 @@ returns-4 c =
 
 pub number-spec : {M : Type 1} → statement M
 number-spec =
-    tie.close
-    (tie.spec
-    Inv-loop
-    μ-loop
-    returns
-    loop-holds
-    shared-slice-read-b
-    digit-requires
-    returns-2
-    mul-n
-    sub-n
-    cast-n
-    add-n
-    returns-3
-    add-i
-    loop-less
-    loop-again
-    returns-4)
+    tie.close (tie.spec Inv-loop μ-loop returns loop-holds (λ c. omega arith) (λ c κs. search needs) returns-2
+    (λ c. omega arith) (λ c. omega (arith, digit-bounds _ (is-digit c)))
+    (λ c. omega (arith, digit-bounds _ (is-digit c))) (λ c. omega (arith, digit-bounds _ (is-digit c))) returns-3
+    (λ c. omega arith) (λ c. omega arith) loop-again returns-4)

@@ -1,69 +1,75 @@
 -- `audit::picture::layers` meets its contract. Assumes nothing.
-use mathlib.Core.Path.{_≡_}
-use Prim.Native.Nat.{_+_, _-_, _≤_}
+use mathlib.Core.Path.{_≡_, ap}
+use mathlib.Core.List.{_++_}
+use Prim.Native.Nat.{ℕ, _+_, _-_}
 use native.Mathlib.Omega.{arith}
-use Rattle.audit.specs.Picture.{layerText}
+use denote.Ref.{now}
+use Rattle.routes.proofs.Box.{widen}
+use Rattle.text.proofs.Saying.{said-as}
+use Rattle.audit.specs.Words.{pieces}
+use Rattle.audit.specs.Picture.{rowIn, layerHead, layerText}
 use Rattle.audit.proofs.Drawing.{narrow}
-use Rattle.audit.proofs.Pieces.{Saying, saying-none, saying-more, saying-all}
+use Rattle.audit.proofs.Pieces.{Saying, saying-none, saying-more, saying-all, said-then}
 use Rattle.audit.proofs.picture.layers.Statement.{statement}
 use Rattle.audit.proofs.picture.layers.Tie as tie
 
 abbrev Inv-loop : tie.InvT-loop
-Inv-loop s drawn g out₀ at n next₀ c₀ out next c = (c ≤ g .z .steps + 1) × Saying (layerText s drawn g) 2490 out₀ at c out next
+Inv-loop s drawn g out₀ at z n next₀ c₀ out next c = Saying (layerText s drawn g) 2555 40880 (g .z .steps + 1) out₀ at c out next
 
 abbrev μ-loop : tie.MeasureT-loop
-μ-loop s drawn g out₀ at n next₀ c₀ out next c = g .z .steps + 1 - c
+μ-loop s drawn g out₀ at z n next₀ c₀ out next c = g .z .steps + 1 - c
 
 add-n : tie.Need-add-n Inv-loop μ-loop
-add-n c = omega (arith, narrow (c .before .before .before .pre .0) .z-in)
+add-n c = omega (arith, narrow (c .before .before .before .before .pre .0) .z-in)
 
 loop-holds : tie.Need-loop-holds Inv-loop μ-loop
-loop-holds c = (omega arith, saying-none _ _ _ _)
+loop-holds c = let s = c .before .before .before .before .pre in saying-none (omega (arith, narrow (s .0) .z-in)) (s .1)
 
-layer-requires : tie.Need-layer-requires Inv-loop μ-loop
-layer-requires c κs =
-    let l = c .before .before in
-    let s = l .before .before .before .before .pre in (
+at-requires : tie.Need-at-requires Inv-loop μ-loop
+at-requires c κs =
+    let s = c .before .before .before .before .before .before in
+    (widen _ (s .args .s .d) (s .pre .0 .held .z-on) 4096 (omega (arith, s .pre .0 .sized .d-hi)), omega arith)
+
+layer-head-requires : tie.Need-layer-head-requires Inv-loop μ-loop
+layer-head-requires c κs =
+    let s = c .before .before .before .before .before .before .before .before in
+    (widen _ (s .args .s .w) (s .pre .0 .held .x-on) 16 (s .pre .0 .sized .w-hi), omega arith)
+
+rows-requires : tie.Need-rows-requires Inv-loop μ-loop
+rows-requires c κs =
+    let head = c .before .before .before in
+    let l = head .before .before .before .before in
+    let s = l .before .before .before .before .before .pre in (
       s .0,
-      record { x-le = omega arith; y-le = omega arith; z-le = omega arith },
-      omega (arith, s .1, narrow (s .0) .z-in, l .loop .inv .1 .room, l .loop .inv .1 .size),
+      omega arith,
+      omega (
+        arith,
+        l .loop .inv .room,
+        l .loop .inv .most,
+        l .loop .inv .fits,
+        l .loop .inv .size,
+        head .layer-head .ensures .1,
+        head .layer-head .kept .1 .1 .0,
+      ),
     )
 
-add-c : tie.Need-add-c Inv-loop μ-loop
-add-c c = omega (arith, narrow (c .before .before .before .before .before .before .before .before .before .pre .0) .z-in)
-
-loop-less : tie.Need-loop-less Inv-loop μ-loop
-loop-less c = omega arith
-
 loop-again : tie.Need-loop-again Inv-loop μ-loop
+unfolding layerText
 loop-again c =
-    let said = c .before .before in
-    let l = said .before .before .before in
-    let s = l .before .before .before .before .pre in
-    (omega arith, saying-more (l .loop .inv .1) (omega (arith, s .1, narrow (s .0) .z-in)) (said .layer .ensures))
-
-same-length : tie.Need-same-length Inv-loop μ-loop
-same-length c = c .before .loop .inv .1 .size
+    let body = c .before .before in
+    let head = body .before .before .before .before in
+    let z = head .before .before in
+    let l = z .before .before in
+    let i = l .loop .inv in
+    let a = l .before .before .before .before .before .args in
+    let rows = pieces (rowIn (a .s) (now (a .drawn)) (a .g) (l .loop .c)) (a .g .y .steps + 1) in
+    let said = said-then 411 2144 (omega (arith, i .room, i .most, i .fits, i .size)) (head .layer-head .ensures) (body .rows .ensures) in
+    saying-more i (omega arith) (said-as (ap (λ (n : ℕ). layerHead n (a .g .x) ++ rows) (z .at .ensures)) (said .0), said .1)
 
 returns : tie.Need-returns Inv-loop μ-loop
-returns c =
-    let l = c .before in
-    let s = l .before .before .before .before in
-    let e : l .loop .c ≡ s .args .g .z .steps + 1 = omega arith in
-    let all = saying-all (l .loop .inv .1) e in
-    (all .0, omega (arith, all .1, narrow (s .pre .0) .z-in))
+returns c = saying-all (c .before .loop .inv) (omega arith)
 
 pub layers-spec : {M : Type 1} → statement M
 layers-spec =
-    tie.close
-    (tie.spec
-    Inv-loop
-    μ-loop
-    add-n
-    loop-holds
-    layer-requires
-    add-c
-    loop-less
-    loop-again
-    same-length
-    returns)
+    tie.close (tie.spec Inv-loop μ-loop add-n loop-holds at-requires layer-head-requires rows-requires (λ c. omega arith) (λ c. omega arith)
+    loop-again (λ c. omega arith) returns)

@@ -1,69 +1,71 @@
 -- `audit::picture::rows` meets its contract. Assumes nothing.
 use mathlib.Core.Path.{_≡_}
-use Prim.Native.Nat.{_+_, _-_, _≤_}
+use mathlib.Core.List.{List}
+use Prim.Native.Nat.{ℕ, _+_, _-_}
 use native.Mathlib.Omega.{arith}
-use Rattle.audit.specs.Picture.{rowText}
+use denote.Ref.{now}
+use lib.ListN.{length}
+use Rattle.mesh.proofs.Numbers.{nodes-le}
+use Rattle.routes.specs.Box.{rowRun}
+use Rattle.routes.proofs.Box.{widen}
+use Rattle.routes.proofs.Rows.{row-on}
+use Rattle.routes.specs.declared.Run.{Run}
+use Rattle.text.proofs.Saying.{said-as}
+use Rattle.audit.specs.Picture.{rowText, rowIn}
 use Rattle.audit.proofs.Drawing.{narrow}
 use Rattle.audit.proofs.Pieces.{Saying, saying-none, saying-more, saying-all}
 use Rattle.audit.proofs.picture.rows.Statement.{statement}
 use Rattle.audit.proofs.picture.rows.Tie as tie
 
 abbrev Inv-loop : tie.InvT-loop
-Inv-loop s drawn g c out₀ at n next₀ b₀ out next b = (b ≤ g .y .steps + 1) × Saying (rowText s drawn g c) 131 out₀ at b out next
+Inv-loop s drawn g c out₀ at y n next₀ b₀ out next b = Saying (rowIn s drawn g c) 134 2144 (g .y .steps + 1) out₀ at b out next
 
 abbrev μ-loop : tie.MeasureT-loop
-μ-loop s drawn g c out₀ at n next₀ b₀ out next b = g .y .steps + 1 - b
+μ-loop s drawn g c out₀ at y n next₀ b₀ out next b = g .y .steps + 1 - b
+
+row-same : (drawn : List ℕ) {y y′ : ℕ} {r r′ : Run} → y ≡ y′ → r ≡ r′ → rowText drawn y r ≡ rowText drawn y′ r′
+row-same drawn e f = rw (e, f)
 
 add-n : tie.Need-add-n Inv-loop μ-loop
-add-n c = omega (arith, narrow (c .before .before .before .pre .0) .y-in)
+add-n c = omega (arith, narrow (c .before .before .before .before .pre .0) .y-in)
 
 loop-holds : tie.Need-loop-holds Inv-loop μ-loop
-loop-holds c = (omega arith, saying-none _ _ _ _)
+loop-holds c = let s = c .before .before .before .before .pre in saying-none (omega (arith, narrow (s .0) .y-in)) (s .2)
+
+at-requires : tie.Need-at-requires Inv-loop μ-loop
+at-requires c κs =
+    let s = c .before .before .before .before .before .before in
+    (widen _ (s .args .s .h) (s .pre .0 .held .y-on) 4096 (omega (arith, s .pre .0 .sized .h-hi)), omega arith)
 
 row-requires : tie.Need-row-requires Inv-loop μ-loop
 row-requires c κs =
-    let l = c .before .before in
-    let s = l .before .before .before .before .pre in (
-      s .0,
-      record { x-le = omega arith; y-le = omega arith; z-le = s .1 .z-le },
-      omega (arith, s .2, narrow (s .0) .y-in, l .loop .inv .1 .room, l .loop .inv .1 .size),
-    )
+    let s = c .before .before .before .before .before .before .before .pre in
+    (s .0 .sized, s .0 .held, record { x-le = omega arith; y-le = omega arith; z-le = s .1 })
 
-add-b : tie.Need-add-b Inv-loop μ-loop
-add-b c = omega (arith, narrow (c .before .before .before .before .before .before .before .before .before .pre .0) .y-in)
-
-loop-less : tie.Need-loop-less Inv-loop μ-loop
-loop-less c = omega arith
+say-row-requires : tie.Need-say-row-requires Inv-loop μ-loop
+say-row-requires c κs =
+    let row = c .before in
+    let l = row .before .before .before in
+    let s = l .before .before .before .before .before in
+    let a = s .args in
+    let d = s .pre .0 in
+    let r = rowRun (a .s) (a .g) (l .loop .b) (a .c) in
+    let on = row-on (a .s) (a .g) (l .loop .b) (a .c) (d .held) (omega arith) (s .pre .1) in
+    rw (row .row .ensures)
+    (widen r _ on 4096 (nodes-le (a .s) (d .sized)), widen r _ on (length (now (a .drawn))) (omega (arith, d .whole)), narrow d .x-in, omega arith)
 
 loop-again : tie.Need-loop-again Inv-loop μ-loop
 loop-again c =
     let said = c .before .before in
-    let l = said .before .before .before in
-    let s = l .before .before .before .before .pre in
-    (omega arith, saying-more (l .loop .inv .1) (omega (arith, s .2, narrow (s .0) .y-in)) (said .row .ensures))
-
-same-length : tie.Need-same-length Inv-loop μ-loop
-same-length c = c .before .loop .inv .1 .size
+    let row = said .before .before in
+    let y = row .before in
+    saying-more (y .before .before .loop .inv) (omega arith)
+    (said-as (row-same _ (y .at .ensures) (row .row .ensures)) (said .say-row .ensures .0), said .say-row .ensures .1)
 
 returns : tie.Need-returns Inv-loop μ-loop
-returns c =
-    let l = c .before in
-    let s = l .before .before .before .before in
-    let e : l .loop .b ≡ s .args .g .y .steps + 1 = omega arith in
-    let all = saying-all (l .loop .inv .1) e in
-    (all .0, omega (arith, all .1, narrow (s .pre .0) .y-in))
+returns c = saying-all (c .before .loop .inv) (omega arith)
 
 pub rows-spec : {M : Type 1} → statement M
 rows-spec =
-    tie.close
-    (tie.spec
-    Inv-loop
-    μ-loop
-    add-n
-    loop-holds
-    row-requires
-    add-b
-    loop-less
-    loop-again
-    same-length
-    returns)
+    tie.close (tie.spec Inv-loop μ-loop add-n loop-holds at-requires row-requires say-row-requires (λ c. omega arith) (λ c. omega arith)
+    loop-again (λ c. omega arith) returns)

@@ -15,7 +15,7 @@ nodes-requires c κs =
     let made = read .before .before .before in
     let file = now (made .before .before .before .args .map) in
     in-range file 4096 (c .before .s .given .0 .0)
-    (ap (readAnswer file) (made .blank-cells .ensures) ∙ sym (read .read-map .ensures .0) ∙ c .before .s .given .1)
+    (ap (readAnswer file) (made .buffer .ensures) ∙ sym (read .read-map .ensures .0) ∙ c .before .s .given .1)
 
 slice-aggregate-print-audit : tie.Need-slice-aggregate-print-audit
 slice-aggregate-print-audit c =
@@ -23,10 +23,11 @@ slice-aggregate-print-audit c =
     let read = n .before .before .before .before .before in
     let made = read .before .before .before in
     sym (length-take-le (n .nodes .result) (read .read-map .last .1 .0)
-    (omega (arith, n .nodes .ensures .1, read .read-map .kept .1 .0, made .blank-cells .ensures)))
+    (omega (arith, n .nodes .ensures .1, read .read-map .kept .1 .0, made .buffer .ensures)))
 
 pub audit-spec : {M : Type 1} → statement M
 audit-spec =
     tie.close (tie.spec (λ c κs. search needs) (λ c κs. search needs) (λ c. search needs) (λ c κs. search needs)
     (λ c. search needs) nodes-requires (λ c. search needs) slice-aggregate-print-audit (λ c. search needs)
-    (λ c κs. search needs) (λ c. search needs) (λ c κs. search needs) (λ c. search needs) (λ c. search needs))
+    (λ c κs. search needs) (λ c. search needs) (λ c. search needs) (λ c. search needs) (λ c κs. search needs)
+    (λ c. search needs) (λ c κs. search needs) (λ c. search needs) (λ c. search needs))

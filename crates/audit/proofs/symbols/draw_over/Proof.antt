@@ -25,24 +25,6 @@ abbrev μ-loop : tie.MeasureT-loop
 loop-holds : tie.Need-loop-holds Inv-loop μ-loop
 loop-holds c = (omega arith, fill-none _ _ _)
 
-slice-read-symbol : tie.Need-slice-read-symbol Inv-loop μ-loop
-slice-read-symbol c = omega (arith, c .before .before .loop .inv .1 .size)
-
-shared-slice-read-symbol : tie.Need-shared-slice-read-symbol Inv-loop μ-loop
-shared-slice-read-symbol c = omega arith
-
-symbol-requires : tie.Need-symbol-requires Inv-loop μ-loop
-symbol-requires c κs = search needs
-
-slice-write-drawn : tie.Need-slice-write-drawn Inv-loop μ-loop
-slice-write-drawn c = omega (arith, c .before .before .before .before .loop .inv .1 .size)
-
-add-k : tie.Need-add-k Inv-loop μ-loop
-add-k c = omega arith
-
-loop-less : tie.Need-loop-less Inv-loop μ-loop
-loop-less c = omega arith
-
 loop-again : tie.Need-loop-again Inv-loop μ-loop
 loop-again c =
     let l = c .before .before .before .before .loop in
@@ -53,9 +35,6 @@ loop-again c =
           (c .symbol .ensures ∙ ap (λ (x : ℕ). symbolOf (a .start) (a .end) (l .k) x (getD (now (a .cells)) (l .k) 0)) still),
     )
 
-same-length : tie.Need-same-length Inv-loop μ-loop
-same-length c = c .before .loop .inv .1 .size
-
 returns : tie.Need-returns Inv-loop μ-loop
 returns c =
     let l = c .before .loop in
@@ -65,17 +44,7 @@ returns c =
 
 pub draw-over-spec : {M : Type 1} → statement M
 draw-over-spec =
-    tie.close
-    (tie.spec
-    Inv-loop
-    μ-loop
-    loop-holds
-    slice-read-symbol
-    shared-slice-read-symbol
-    symbol-requires
-    slice-write-drawn
-    add-k
-    loop-less
-    loop-again
-    same-length
-    returns)
+    tie.close (tie.spec Inv-loop μ-loop loop-holds (λ c. omega (arith, c .before .before .loop .inv .1 .size))
+    (λ c. omega arith) (λ c κs. search needs)
+    (λ c. omega (arith, c .before .before .before .before .loop .inv .1 .size)) (λ c. omega arith) (λ c. omega arith)
+    loop-again (λ c. c .before .loop .inv .1 .size) returns)

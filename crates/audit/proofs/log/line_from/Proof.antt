@@ -1,4 +1,4 @@
--- `audit::auditing::line_from` meets its contract. Assumes nothing.
+-- `audit::log::line_from` meets its contract. Assumes nothing.
 use mathlib.Core.Path.{ap, _∙_}
 use Prim.Native.Nat.{_-_, _≤_}
 use native.Mathlib.Omega.{arith}
@@ -8,15 +8,15 @@ use lib.Seq.{take-all}
 use Rattle.audit.specs.Log.{upTo}
 use Rattle.audit.specs.declared.Stop.the-variants.{Feed}
 use borrow.Author.Needs.{needs}
-use Rattle.audit.proofs.auditing.line_from.Statement.{statement}
-use Rattle.audit.proofs.auditing.line_from.Tie as tie
+use Rattle.audit.proofs.log.line_from.Statement.{statement}
+use Rattle.audit.proofs.log.line_from.Tie as tie
 
 returns : tie.Need-returns
 returns c =
     let a = c .before .before .before .args in
-    let log = now (a .log) in
-    let fits : length (drop (a .at) log) ≤ length log - a .at = omega (arith, length-drop (a .at) log) in
-    c .up-to .ensures ∙ ap (upTo Feed) (take-all (length log - a .at) (drop (a .at) log) fits)
+    let text = now (a .text) in
+    let fits : length (drop (a .at) text) ≤ length text - a .at = omega (arith, length-drop (a .at) text) in
+    c .up-to .ensures ∙ ap (upTo Feed) (take-all (length text - a .at) (drop (a .at) text) fits)
 
 pub line-from-spec : {M : Type 1} → statement M
 line-from-spec =
