@@ -79,16 +79,12 @@ fn cells_in(file: &[u8], n: usize) -> &[u8]
 fn check_frame(file: &[u8]) -> Answer
     ensures { λ r. ⌜ r ≡ checkFrame (now (file .entry)) ⌝ }
 {
-    if file.len() < TRAILER {
+    let fits = (TRAILER <= file.len()) & (file.len() <= FILE_LIMIT);
+    if !fits {
         return Answer::Refused(Refusal::BadFile);
     }
-    if file.len() > FILE_LIMIT {
-        return Answer::Refused(Refusal::BadFile);
-    }
-    if !has_mark(file) {
-        return Answer::Refused(Refusal::BadFile);
-    }
-    if trailer_at(file, 3) != 0 {
+    let framed = has_mark(file) & (trailer_at(file, 3) == 0);
+    if !framed {
         return Answer::Refused(Refusal::BadFile);
     }
     Answer::Done
@@ -107,10 +103,8 @@ fn check_trailer(file: &[u8]) -> Answer
         return Answer::Refused(Refusal::BadSizes);
     }
     let distance = s.nodes() + TRAILER;
-    if distance_in(file) != distance {
-        return Answer::Refused(Refusal::BadFile);
-    }
-    if distance > file.len() {
+    let reaches = (distance_in(file) == distance) & (distance <= file.len());
+    if !reaches {
         return Answer::Refused(Refusal::BadFile);
     }
     Answer::Done
