@@ -14,13 +14,6 @@ ghost use lib.ListN.{length, take, drop};
 ghost use Rattle.mapfile.specs.Format.{trailerAt, hasMark, sizesIn, distanceIn};
 ghost use Rattle.mapfile.specs.Entry.{checkFrame, checkTrailer, readCheck, readAnswer, readOut};
 
-// Room for the longest file, and for one byte more, by which a longer one is told.
-pub fn blank_file() -> [u8; 65537]
-    ensures { λ r. ⌜ 65537 ≡ length r ⌝ }
-{
-    [0; 65537]
-}
-
 // Byte i of the trailer.
 fn trailer_at(file: &[u8], i: usize) -> u8
     requires { ⌜ (12 ≤ length (now file)) × (i < 12) ⌝ }
