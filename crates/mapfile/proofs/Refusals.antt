@@ -1,22 +1,23 @@
 -- Which refusal stands, check by check, and what the checks before it have granted. Assumes nothing.
 use mathlib.Core.Path.{_≡_, sym, ap, _∙_}
-use mathlib.Core.Bool.{true, false}
+use mathlib.Core.Bool.{Bool, true, false, _&&_}
 use mathlib.Core.List.{List, _++_}
 use Prim.Native.Nat.{ℕ, _+_, _-_, _≤_, _<_}
 use native.Mathlib.Omega.{arith}
-use borrow.Author.Tests.{lt-leb, le-leb, eq-eqb, ne-eqb}
-use lib.Dec.{eqb}
+use borrow.Author.Tests.{lt-leb, le-leb, eq-eqb}
+use lib.Dec.{eqb, leb}
 use lib.ListN.{length, take, drop, length-append, length-take, length-drop}
 use lib.Seq.{take-at}
+use Rattle.mesh.specs.Tools.{between}
 use Rattle.mesh.specs.Mesh.{inRange, InRange, nodes}
-use Rattle.mesh.specs.Answers.{checkMap}
+use Rattle.mesh.specs.Answers.{unless, checkMap}
 use Rattle.mesh.specs.declared.Sizes.{Sizes}
 use Rattle.mesh.specs.declared.Refusal.{Refusal}
 use Rattle.mesh.specs.declared.Refusal.the-variants.{BadSizes, NoRoom, BadFile}
 use Rattle.mesh.specs.declared.Answer.the-variants.{Done, Refused}
 use Rattle.mesh.specs.declared.Numbered.the-variants.{Number, NotNumbered}
 use Rattle.mesh.proofs.Answers.{sizes-is}
-use Rattle.mesh.proofs.Tests.{T-and, T-eq, T-le}
+use Rattle.mesh.proofs.Tests.{T-and, T-eq, T-le, holds-true}
 use Rattle.mapfile.specs.Stored.{stored}
 use Rattle.mapfile.specs.Format.{fileLimit, distance, trailer, trailerAt, hasMark, sizesIn, distanceIn, cellsIn}
 use Rattle.mapfile.specs.Entry.{checkFrame, checkTrailer, readCheck, readAnswer, readWritten, readOut}
@@ -25,29 +26,20 @@ use Rattle.mapfile.specs.declared.MapRead.the-variants.{Read, NotRead}
 use Rattle.mapfile.proofs.Stored.{stored-next, stored-front}
 use Rattle.mapfile.proofs.Checks.{both-done, unless-done, sizes-done}
 
+pub between-least : (a b n : ℕ) → between a b n ≡ true → a ≤ n
+between-least a b n e = let (l, m) = simp (T-and, T-le) at (holds-true (between a b n) .1 e) in l
+
 module _ (file : List ℕ) where
   -- ---- length, mark and zero byte
 
-  pub frame-short : length file < 12 → checkFrame file ≡ Refused BadFile
+  pub frame-outside : between 12 fileLimit (length file) ≡ false → checkFrame file ≡ Refused BadFile
   unfolding checkFrame
-  frame-short h = rw (lt-leb 12 (length file) h)
+  frame-outside e = rw e
 
-  pub frame-long : 12 ≤ length file → fileLimit < length file → checkFrame file ≡ Refused BadFile
+  pub frame-inside : between 12 fileLimit (length file) ≡ true → (b : Bool) → (hasMark file && eqb (trailerAt file 3) 0) ≡ b
+      → checkFrame file ≡ unless b BadFile
   unfolding checkFrame
-  frame-long l h = rw (le-leb 12 (length file) l, lt-leb (length file) fileLimit h)
-
-  module _ (least : 12 ≤ length file) (most : length file ≤ fileLimit) where
-    pub frame-mark : hasMark file ≡ false → checkFrame file ≡ Refused BadFile
-    unfolding checkFrame
-    frame-mark e = rw (le-leb 12 (length file) least, le-leb (length file) fileLimit most, e)
-
-    pub frame-zero : hasMark file ≡ true → eqb (trailerAt file 3) 0 ≡ false → checkFrame file ≡ Refused BadFile
-    unfolding checkFrame
-    frame-zero m e = rw (le-leb 12 (length file) least, le-leb (length file) fileLimit most, m, e)
-
-    pub frame-granted : hasMark file ≡ true → eqb (trailerAt file 3) 0 ≡ true → checkFrame file ≡ Done
-    unfolding checkFrame
-    frame-granted m e = rw (le-leb 12 (length file) least, le-leb (length file) fileLimit most, m, e)
+  frame-inside l b e = rw (l, e)
 
   pub frame-least : checkFrame file ≡ Done → 12 ≤ length file
   unfolding checkFrame
@@ -64,17 +56,10 @@ module _ (file : List ℕ) where
   trailer-sizes f e = rw (f, e)
 
   module _ (framed : checkFrame file ≡ Done) (sized : inRange (sizesIn file) ≡ true) where
-    pub trailer-other : (distanceIn file ≡ distance (sizesIn file) → ⊥) → checkTrailer file ≡ Refused BadFile
+    pub trailer-reaches : (b : Bool) → (eqb (distanceIn file) (distance (sizesIn file)) && leb (distance (sizesIn file)) (length file)) ≡ b
+        → checkTrailer file ≡ unless b BadFile
     unfolding checkTrailer
-    trailer-other n = rw (framed, sized, ne-eqb (distanceIn file) (distance (sizesIn file)) n)
-
-    pub trailer-beyond : distanceIn file ≡ distance (sizesIn file) → length file < distance (sizesIn file) → checkTrailer file ≡ Refused BadFile
-    unfolding checkTrailer
-    trailer-beyond e h = rw (framed, sized, eq-eqb (distanceIn file) (distance (sizesIn file)) e, lt-leb (distance (sizesIn file)) (length file) h)
-
-    pub trailer-granted : distanceIn file ≡ distance (sizesIn file) → distance (sizesIn file) ≤ length file → checkTrailer file ≡ Done
-    unfolding checkTrailer
-    trailer-granted e h = rw (framed, sized, eq-eqb (distanceIn file) (distance (sizesIn file)) e, le-leb (distance (sizesIn file)) (length file) h)
+    trailer-reaches b e = rw (framed, sized, e)
 
   -- what has been granted then
   pub trailer-says : checkTrailer file ≡ Done → (12 ≤ length file) × InRange (sizesIn file) × (distance (sizesIn file) ≤ length file)

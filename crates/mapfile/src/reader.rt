@@ -14,13 +14,6 @@ ghost use lib.ListN.{length, take, drop};
 ghost use Rattle.mapfile.specs.Format.{trailerAt, hasMark, sizesIn, distanceIn};
 ghost use Rattle.mapfile.specs.Entry.{checkFrame, checkTrailer, readCheck, readAnswer, readOut};
 
-// Room for the longest file, and for one byte more, by which a longer one is told.
-pub fn blank_file() -> [u8; 65537]
-    ensures { λ r. ⌜ 65537 ≡ length r ⌝ }
-{
-    [0; 65537]
-}
-
 // Byte i of the trailer.
 fn trailer_at(file: &[u8], i: usize) -> u8
     requires { ⌜ (12 ≤ length (now file)) × (i < 12) ⌝ }
@@ -79,16 +72,12 @@ fn cells_in(file: &[u8], n: usize) -> &[u8]
 fn check_frame(file: &[u8]) -> Answer
     ensures { λ r. ⌜ r ≡ checkFrame (now (file .entry)) ⌝ }
 {
-    if file.len() < TRAILER {
+    let fits = (TRAILER <= file.len()) & (file.len() <= FILE_LIMIT);
+    if !fits {
         return Answer::Refused(Refusal::BadFile);
     }
-    if file.len() > FILE_LIMIT {
-        return Answer::Refused(Refusal::BadFile);
-    }
-    if !has_mark(file) {
-        return Answer::Refused(Refusal::BadFile);
-    }
-    if trailer_at(file, 3) != 0 {
+    let framed = has_mark(file) & (trailer_at(file, 3) == 0);
+    if !framed {
         return Answer::Refused(Refusal::BadFile);
     }
     Answer::Done
@@ -107,10 +96,8 @@ fn check_trailer(file: &[u8]) -> Answer
         return Answer::Refused(Refusal::BadSizes);
     }
     let distance = s.nodes() + TRAILER;
-    if distance_in(file) != distance {
-        return Answer::Refused(Refusal::BadFile);
-    }
-    if distance > file.len() {
+    let reaches = (distance_in(file) == distance) & (distance <= file.len());
+    if !reaches {
         return Answer::Refused(Refusal::BadFile);
     }
     Answer::Done

@@ -8,17 +8,15 @@ use mesh::Refusal;
 use mesh::Sizes;
 use mesh::cells::check_map;
 ghost use mathlib.Core.Path.{_≡_};
-ghost use Prim.Native.Nat.{_+_, _≤_};
 ghost use lib.ListN.{length};
 ghost use Rattle.mesh.specs.Mesh.{InRange};
-ghost use Rattle.mapfile.specs.Stored.{stored};
-ghost use Rattle.mapfile.specs.Format.{sizesAndDistance, trailer};
+ghost use Rattle.mapfile.specs.Format.{trailer};
 ghost use Rattle.mapfile.specs.Entry.{writeCheck, writeAnswer, writeOut};
 
-// What stands before the mark in a trailer.
-fn sizes_and_distance(s: Sizes) -> [u8; 8]
+// The trailer.
+fn trailer(s: Sizes) -> [u8; 12]
     requires { ⌜ InRange s ⌝ }
-    ensures { λ r. ⌜ r ≡ sizesAndDistance s ⌝ }
+    ensures { λ r. ⌜ r ≡ trailer s ⌝ }
 {
     let n = s.nodes() + TRAILER;
     [
@@ -30,6 +28,10 @@ fn sizes_and_distance(s: Sizes) -> [u8; 8]
         (n / 256 % 256) as u8,
         (n / 65536 % 256) as u8,
         (n / 16777216 % 256) as u8,
+        MARK[0],
+        MARK[1],
+        MARK[2],
+        MARK[3],
     ]
 }
 
@@ -47,15 +49,6 @@ fn check_write(s: Sizes, cells: &[u8], room: usize) -> Answer
     Answer::Done
 }
 
-// Stores the trailer, from a place on.
-fn put_trailer(s: Sizes, out: &mut [u8], at: usize)
-    requires { ⌜ InRange s × (at + 12 ≤ length (now out)) ⌝ }
-    ensures { λ _. ⌜ now (out .exit) ≡ stored (now (out .entry)) at (trailer s) ⌝ }
-{
-    put(&sizes_and_distance(s), out, at);
-    put(&MARK, out, at + 8);
-}
-
 // Writes a map file without notes to the front of the lent bytes; its length. Refusals 1, 2, 4, 3.
 pub fn write_map(s: Sizes, cells: &[u8], out: &mut [u8]) -> Numbered
     ensures { λ r. ⌜ (r ≡ writeAnswer s (now (cells .entry)) (length (now (out .entry))))
@@ -67,6 +60,6 @@ pub fn write_map(s: Sizes, cells: &[u8], out: &mut [u8]) -> Numbered
     }
     let n = s.nodes();
     put(cells, out, 0);
-    put_trailer(s, out, n);
+    put(&trailer(s), out, n);
     Numbered::Number(n + TRAILER)
 }

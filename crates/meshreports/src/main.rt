@@ -1,6 +1,6 @@
 // Prints the report on each file that an argument names, under its name. What `meshreport` prints is tried by it on many files in one run.
-use report::running::open_named;
 use report::running::run;
+use text::running::open_named;
 
 fn main() {
     for i in 1..os::arg_count() {

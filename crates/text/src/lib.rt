@@ -1,4 +1,6 @@
 // Text into lent bytes: words, numbers in decimal, and forms with numbers in them.
+pub mod running;
+
 use mapfile::storing::put;
 ghost use mathlib.Core.List.{_++_};
 ghost use Prim.Native.Nat.{_+_, _*_, _≤_};

@@ -1,6 +1,6 @@
 -- `mapfile::reader::check_trailer` meets its contract: each check is run where those before it are granted. Assumes nothing.
 use mathlib.Core.Path.{_≡_, sym, ap, _∙_}
-use mathlib.Core.Bool.{true}
+use mathlib.Core.Bool.{true, false}
 use Prim.Native.Nat.{ℕ, _+_}
 use borrow.Author.Tests.{not-true, not-false}
 use borrow.Author.Needs.{needs}
@@ -10,7 +10,7 @@ use Rattle.mesh.specs.declared.Answer.the-variants.{Done}
 use Rattle.mesh.proofs.Answers.{sizes-of}
 use Rattle.mapfile.specs.Format.{distance, sizesIn}
 use Rattle.mapfile.specs.Entry.{checkFrame}
-use Rattle.mapfile.proofs.Refusals.{frame-least, trailer-stands, trailer-sizes, trailer-other, trailer-beyond, trailer-granted}
+use Rattle.mapfile.proofs.Refusals.{frame-least, trailer-stands, trailer-sizes, trailer-reaches}
 use Rattle.mapfile.proofs.reader.check_trailer.Statement.{statement}
 use Rattle.mapfile.proofs.reader.check_trailer.Tie as tie
 
@@ -53,34 +53,20 @@ distance-in-requires c κs =
 returns-3 : tie.Need-returns-3
 returns-3 c =
     let d = c .before in
-    let file = now (d .before .before .before .before .before .before .before .before .before .args .file) in
     let past = d .before .before in
-    sym
-    (trailer-other file (framed (past .before .before .before)) (sized past)
-    (λ e. c .if2 .taken (d .distance-in .ensures ∙ e ∙ sym (distance-is d))))
+    let told = past .before .before .before in
+    sym (trailer-reaches (now (told .before .before .before .before .args .file)) (framed told) (sized past) false
+    (not-true _ (rw (d .distance-in .ensures, distance-is d) at (c .if2 .taken))))
 
 returns-4 : tie.Need-returns-4
 returns-4 c =
-    let d = c .before .before in
-    let file = now (d .before .before .before .before .before .before .before .before .before .args .file) in
+    let d = c .before in
     let past = d .before .before in
-    sym
-    (trailer-beyond file (framed (past .before .before .before)) (sized past)
-    (sym (d .distance-in .ensures) ∙ c .before .if2 .left ∙ distance-is d)
-    (rw (distance-is d) at (c .if3 .taken)))
-
-returns-5 : tie.Need-returns-5
-returns-5 c =
-    let d = c .before .before in
-    let file = now (d .before .before .before .before .before .before .before .before .before .args .file) in
-    let past = d .before .before in
-    sym
-    (trailer-granted file (framed (past .before .before .before)) (sized past)
-    (sym (d .distance-in .ensures) ∙ c .before .if2 .left ∙ distance-is d)
-    (rw (distance-is d) at (c .if3 .left)))
+    let told = past .before .before .before in
+    sym (trailer-reaches (now (told .before .before .before .before .args .file)) (framed told) (sized past) true
+    (not-false _ (rw (d .distance-in .ensures, distance-is d) at (c .if2 .left))))
 
 pub check-trailer-spec : {M : Type 1} → statement M
 check-trailer-spec =
     tie.close (tie.spec (λ c κs. search needs) (λ c. search needs) (λ c. search needs) returns sizes-in-requires
-    (λ c κs. search needs) returns-2 nodes-requires (λ c. search needs) distance-in-requires returns-3 returns-4
-    returns-5)
+    (λ c κs. search needs) returns-2 nodes-requires (λ c. search needs) distance-in-requires returns-3 returns-4)

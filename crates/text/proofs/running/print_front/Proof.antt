@@ -1,10 +1,10 @@
--- `report::running::print_front` is safe and ends. Assumes nothing.
+-- `text::running::print_front` is safe and ends. Assumes nothing.
 use mathlib.Core.Path.{sym}
 use borrow.Author.Needs.{needs}
 use denote.Ref.{now}
 use lib.Seq.{length-take-le}
-use Rattle.report.proofs.running.print_front.Statement.{statement}
-use Rattle.report.proofs.running.print_front.Tie as tie
+use Rattle.text.proofs.running.print_front.Statement.{statement}
+use Rattle.text.proofs.running.print_front.Tie as tie
 
 slice-aggregate-write-all : tie.Need-slice-aggregate-write-all
 slice-aggregate-write-all c = let s = c .before .before in sym (length-take-le (s .args .n) (now (s .args .text)) (s .pre))

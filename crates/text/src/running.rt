@@ -1,0 +1,33 @@
+// What the programs share, and nothing proves more of than that it is safe: a file is read, a file is named, text is printed.
+use libc::STDOUT_FILENO;
+ghost use mathlib.Core.Path.{_≡_};
+ghost use Prim.Native.Nat.{_≤_};
+ghost use lib.ListN.{length};
+
+// Room for the longest file, and for one byte more, by which a longer one is told.
+pub fn blank_file() -> [u8; 65537]
+    ensures { λ r. ⌜ 65537 ≡ length r ⌝ }
+{
+    [0; 65537]
+}
+
+// Opens the file that argument i names, and prints its name. The descriptor is below 0 where it cannot be opened.
+pub fn open_named(i: usize) -> i32 {
+    let mut path = io::buffer();
+    let n = os::arg(i, &mut path);
+    let fd = os::open_read(&path[..n]);
+    if fd < 0 {
+        os::fail(&path[..n]);
+        return fd;
+    }
+    io::write_all(STDOUT_FILENO, &path[..n]);
+    io::write_all(STDOUT_FILENO, b"\n");
+    fd
+}
+
+// Prints the first n bytes.
+pub fn print_front(text: &[u8], n: usize)
+    requires { ⌜ n ≤ length (now text) ⌝ }
+{
+    io::write_all(STDOUT_FILENO, &text[..n]);
+}
