@@ -67,7 +67,7 @@ module _ (S : Sizes) (marks : List ℕ) where
     ]
 
     -- a row more, and what lies between it and the next
-    pub row-laid : (y z k : ℕ) (new : List ℕ) → y < S .h → z < S .d → k ≡ 0 + S .w * (y + S .h * z) → Laid S marks (307 + (17 * y + 289 * z)) g
+    pub row-laid : (y z k : ℕ) (new : List ℕ) → y < S .h → z < S .d → k ≡ S .w * (y + S .h * z) → Laid S marks (307 + (17 * y + 289 * z)) g
         → Filled (λ x. 307 + (17 * y + 289 * z) + x) (λ x. shade (getD marks (k + x) 0)) g new (S .w) → Laid S marks (307 + (17 * (y + 1) + 289 * z)) new
     row-laid y z k new hy hz ek L F =
         record {
@@ -104,7 +104,7 @@ module _ (S : Sizes) (g old new : List ℕ) where
   pub copied-none : Copied S g old 0 old
   copied-none = record { long = refl; done = λ k h. absurd (omega arith); rest = λ k h. refl }
 
-  pub row-copied : (y z k : ℕ) (mid : List ℕ) → y < S .h → z < S .d → k ≡ 0 + S .w * (y + S .h * z) → Copied S g old (S .w * (y + S .h * z)) mid
+  pub row-copied : (y z k : ℕ) (mid : List ℕ) → y < S .h → z < S .d → k ≡ S .w * (y + S .h * z) → Copied S g old (S .w * (y + S .h * z)) mid
       → Filled (λ x. k + x) (λ x. getD g (307 + (17 * y + 289 * z) + x) 0) mid new (S .w) → Copied S g old (S .w * (y + 1 + S .h * z)) new
   row-copied y z k mid hy hz ek C F =
       let e = row-end (S .w) (S .h) y z in

@@ -8,33 +8,30 @@ ghost use Rattle.components.specs.Flood.{Sized, Visited, Spread, Flooded
 // What the grid holds at an unsafe node that has no number yet.
 pub const UNSEEN: u16 = 65535;
 
-// The steps to the eighteen touching places, each with 307 added.
-const AROUND: [usize; 18] = [
-    1,
-    17,
-    18,
-    19,
-    35,
-    289,
-    290,
-    291,
-    306,
-    308,
-    323,
-    324,
-    325,
-    579,
-    595,
-    596,
-    597,
-    613,
-];
-
-// The steps, to be lent on: a constant that is indexed is laid out anew each time.
+// The steps to the eighteen touching places, each with 307 added. They are lent on: a constant that is indexed is laid out anew each time.
 pub fn steps_around() -> [usize; 18]
     ensures { λ r. ⌜ r ≡ around ⌝ }
 {
-    AROUND
+    [
+        1,
+        17,
+        18,
+        19,
+        35,
+        289,
+        290,
+        291,
+        306,
+        308,
+        323,
+        324,
+        325,
+        579,
+        595,
+        596,
+        597,
+        613,
+    ]
 }
 
 // Looks at one place.
