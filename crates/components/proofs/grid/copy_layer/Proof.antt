@@ -44,9 +44,6 @@ loop-again c =
           (d .before .loop-test .taken) (s .pre .1) (r .first) (l .inv .2 old C) (rw (r .placed) at (v .copy-row .ensures)),
     )
 
-same-length : tie.Need-same-length Inv-loop μ-loop
-same-length c = c .before .loop .inv .1
-
 returns : tie.Need-returns Inv-loop μ-loop
 returns c =
     let l = c .before .loop in
@@ -57,5 +54,5 @@ returns c =
 
 pub copy-layer-spec : {M : Type 1} → statement M
 copy-layer-spec =
-    tie.close (tie.spec Inv-loop μ-loop loop-holds (λ c κs. search needs) copy-row-requires
-    (λ c. omega arith) (λ c. omega arith) loop-again same-length returns)
+    tie.close (tie.spec Inv-loop μ-loop loop-holds (λ c κs. search needs) copy-row-requires (λ c. omega arith)
+    (λ c. omega arith) loop-again (λ c. c .before .loop .inv .1) returns)

@@ -31,9 +31,6 @@ loop-again c =
     let l = c .before .before .before .before .before .loop in
     (omega arith, v .kept .1 .1 .0 ∙ l .inv .1, v .ensures (c .before .before .before .before .before .before .before .before .args .table .now) (l .inv .2))
 
-same-length : tie.Need-same-length Inv-loop μ-loop
-same-length c = c .before .loop .inv .1
-
 returns : tie.Need-returns Inv-loop μ-loop
 returns c =
     let l = c .before .loop in
@@ -43,4 +40,4 @@ returns c =
 pub copy-out-spec : {M : Type 1} → statement M
 copy-out-spec =
     tie.close (tie.spec Inv-loop μ-loop loop-holds copy-layer-requires (λ c. omega arith) (λ c. omega arith) loop-again
-    same-length returns)
+    (λ c. c .before .loop .inv .1) returns)

@@ -31,9 +31,6 @@ loop-again c =
           (omega (arith, l .inv .1 .size)) (λ i h e. omega arith) refl refl,
     )
 
-same-length : tie.Need-same-length Inv-loop μ-loop
-same-length c = c .before .loop .inv .1 .size
-
 returns : tie.Need-returns Inv-loop μ-loop
 returns c =
     let l = c .before .loop in
@@ -43,5 +40,5 @@ returns c =
 pub copy-row-spec : {M : Type 1} → statement M
 copy-row-spec =
     tie.close (tie.spec Inv-loop μ-loop loop-holds (λ c. omega arith) (λ c. omega arith) (λ c. omega arith)
-    (λ c. omega arith) (λ c. omega arith) slice-write-table (λ c. omega arith) (λ c. omega arith) loop-again same-length
-    returns)
+    (λ c. omega arith) (λ c. omega arith) slice-write-table (λ c. omega arith) (λ c. omega arith) loop-again
+    (λ c. c .before .loop .inv .1 .size) returns)

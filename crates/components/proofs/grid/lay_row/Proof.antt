@@ -32,9 +32,6 @@ loop-again c =
           (omega (arith, l .inv .1 .size)) (λ i h e. omega arith) refl (c .shade .ensures),
     )
 
-same-length : tie.Need-same-length Inv-loop μ-loop
-same-length c = c .before .loop .inv .1 .size
-
 returns : tie.Need-returns Inv-loop μ-loop
 returns c =
     let l = c .before .loop in
@@ -44,4 +41,5 @@ returns c =
 pub lay-row-spec : {M : Type 1} → statement M
 lay-row-spec =
     tie.close (tie.spec Inv-loop μ-loop loop-holds (λ c. omega arith) (λ c. omega arith) (λ c κs. tt) (λ c. omega arith)
-    (λ c. omega arith) slice-write-grid (λ c. omega arith) (λ c. omega arith) loop-again same-length returns)
+    (λ c. omega arith) slice-write-grid (λ c. omega arith) (λ c. omega arith) loop-again
+    (λ c. c .before .loop .inv .1 .size) returns)

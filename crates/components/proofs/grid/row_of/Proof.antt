@@ -21,4 +21,6 @@ returns c =
     }
 
 pub row-of-spec : {M : Type 1} → statement M
-row-of-spec = tie.close (tie.spec number-requires (λ c. search needs) (λ c. search needs) (λ c. search needs) (λ c. search needs) returns)
+row-of-spec =
+    tie.close (tie.spec number-requires (λ c. search needs) (λ c. search needs) (λ c. search needs) (λ c. search needs)
+    returns)

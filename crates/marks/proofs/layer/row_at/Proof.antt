@@ -58,9 +58,6 @@ loop-again c =
       e ∙ ap bit (sym (before-next (rowAt (now (a .cells)) (now (a .out)) (a .w) (a .k) (a .j) (a .l) (a .down)) (at .loop .a))),
     )
 
-same-length : tie.Need-same-length Inv-loop μ-loop
-same-length c = c .before .loop .inv .1 .size
-
 returns : tie.Need-returns Inv-loop μ-loop
 returns c =
     let at = c .before in
@@ -72,4 +69,4 @@ pub row-at-spec : {M : Type 1} → statement M
 row-at-spec =
     tie.close (tie.spec Inv-loop μ-loop loop-holds (λ c κs. omega arith) (λ c. omega arith) (λ c. omega arith)
     add-shut-byte-2 slice-read-shut-byte add-shut-byte-3 slice-read-shut-byte-2 shut-byte-requires (λ c. omega arith)
-    (λ c. omega arith) (λ c. omega arith) (λ c. omega arith) loop-again same-length returns)
+    (λ c. omega arith) (λ c. omega arith) (λ c. omega arith) loop-again (λ c. c .before .loop .inv .1 .size) returns)
