@@ -1,18 +1,16 @@
 -- The grid: places and spots undo each other, and the eighteen steps around a spot are those to the touching places. Assumes nothing.
-use mathlib.Core.Path.{_≡_, refl, sym, ap, _∙_, subst}
-use mathlib.Core.Logic.{_↔_, _⊎_, inl, inr}
-use mathlib.Core.Bool.{Bool, true, false, _&&_}
-use mathlib.Core.List.{List}
-use Prim.Native.Nat.{ℕ, zero, suc, _+_, _-_, _*_, _/_, _%_, _≤_, _<_}
+use mathlib.Core.Path.{_≡_}
+use mathlib.Core.Bool.{Bool, _&&_}
+use Prim.Native.Nat.{ℕ, _+_, _-_, _*_, _/_, _%_, _≤_, _<_}
 use native.Mathlib.Omega.{arith}
 use lib.Dec.{T, leb, ltb, leb→le, le→leb, ltb→lt, eqb}
 use lib.ListN.{getD}
 use Rattle.mesh.specs.Tools.{all, any, implies, between}
-use Rattle.mesh.specs.Mesh.{Axis, X, Y, Z, every}
-use Rattle.mesh.proofs.Tests.{T-all, T-any, T-and, T-implies, T-eq, T-le, T-lt, T-every}
+use Rattle.mesh.specs.Mesh.{X, Y, Z, every}
+use Rattle.mesh.proofs.Tests.{T-all, T-any, T-and, T-implies, T-eq, T-every}
 use Rattle.mesh.specs.declared.Place.{Place}
 use Rattle.components.specs.Touch.{apart, touch}
-use Rattle.components.specs.Grid.{gridSize, spot, placeAt, Spot, around, Beside}
+use Rattle.components.specs.Grid.{spot, placeAt, Spot, around, Beside}
 
 -- ---- the steps stay in the grid
 

@@ -1,9 +1,9 @@
 -- Impostors: what no function that meets the contract of the components' call does, by what it forces on case 10 of 01. Assumes nothing.
-use mathlib.Core.Path.{_≡_, refl, sym, ap, _∙_}
+use mathlib.Core.Path.{_≡_, ap}
 use mathlib.Core.List.{List, [], _∷_}
 use Prim.Native.Nat.{ℕ}
 use native.Mathlib.Omega.{arith}
-use lib.ListN.{length, getD, replicate}
+use lib.ListN.{getD, replicate}
 use Rattle.mesh.specs.Tools.{table}
 use Rattle.mesh.specs.Mesh.{sizes, inRange}
 use Rattle.mesh.specs.Steps.{next}

@@ -2,21 +2,20 @@
 -- nodes to add than rounds. Assumes nothing.
 use mathlib.Core.Path.{_≡_, refl, sym, ap, _∙_, subst}
 use mathlib.Core.Logic.{_↔_, _⊎_, inl, inr}
-use mathlib.Core.Bool.{Bool, true, false, not, _&&_, _||_}
-use mathlib.Core.List.{List, [], _∷_}
-use Prim.Native.Nat.{ℕ, zero, suc, _+_, _-_, _≤_, _<_}
+use mathlib.Core.Bool.{Bool, not, _||_}
+use mathlib.Core.List.{List}
+use Prim.Native.Nat.{ℕ, zero, suc, _-_, _≤_, _<_}
 use native.Mathlib.Omega.{arith}
-use native.Mathlib.Nat.{add-comm}
-use lib.Dec.{T, T-not, eqb, leb, nleb→lt, leb→le, eqb-refl}
-use lib.ListN.{length, getD, List·getD-eq-default}
-use Rattle.mesh.specs.Tools.{between, table}
-use Rattle.mesh.specs.Mesh.{Axis, X, Y, Z, every, placeOf}
-use Rattle.mesh.proofs.Tests.{T-or, T-eq, T-no, T-lt, tried}
+use lib.Dec.{T, eqb, leb, nleb→lt, leb→le, eqb-refl}
+use lib.ListN.{length, List·getD-eq-default}
+use Rattle.mesh.specs.Tools.{table}
+use Rattle.mesh.specs.Mesh.{Axis, X, Y, Z, placeOf}
+use Rattle.mesh.proofs.Tests.{T-or, T-eq, tried}
 use Rattle.mesh.specs.declared.Sizes.{Sizes}
 use Rattle.mesh.specs.declared.Place.{Place}
-use Rattle.components.specs.Lists.{anyOf, isIn, keep}
+use Rattle.components.specs.Lists.{isIn, keep}
 use Rattle.components.specs.Touch.{unsafe, unsafeNodes, apart, touch, touching, Joined, itself, further, near, grown, component, joined}
-use Rattle.components.proofs.Lists.{T-any-of, T-keep, keep-few, keep-le, keep-tight, keep-ext, T-table, Ascending, keep-ascends, table-ascends}
+use Rattle.components.proofs.Lists.{T-any-of, T-keep, keep-few, keep-tight, keep-ext, T-table, Ascending, keep-ascends, table-ascends}
 
 -- ---- touching goes both ways
 

@@ -1,13 +1,13 @@
 -- The mesh in the grid, row after row: what lies between two rows, and between two layers, is no place of the mesh. Assumes nothing.
 use mathlib.Core.Path.{_≡_, refl, sym, ap, _∙_, subst}
-use mathlib.Core.Logic.{_⊎_, inl, inr}
-use mathlib.Core.Bool.{Bool, true, false, cond, not, _&&_}
+use mathlib.Core.Logic.{inl, inr}
+use mathlib.Core.Bool.{Bool, cond, _&&_}
 use mathlib.Core.List.{List}
-use Prim.Native.Nat.{ℕ, _+_, _-_, _*_, _/_, _%_, _≤_, _<_}
+use Prim.Native.Nat.{ℕ, _+_, _-_, _*_, _≤_, _<_}
 use native.Mathlib.Omega.{arith}
-use lib.Dec.{T, leb, le→leb, leb→le, ltb, ltb→lt, nltb→le, not-T}
+use lib.Dec.{leb, le→leb, leb→le, ltb, ltb→lt, nltb→le, not-T}
 use lib.ListN.{length, getD}
-use Rattle.mesh.specs.Mesh.{place, InRange, Inside, inside, nodes, number, placeOf}
+use Rattle.mesh.specs.Mesh.{place, InRange, Inside, inside, number, placeOf}
 use Rattle.mesh.specs.Fill.{Filled}
 use Rattle.mesh.proofs.Tests.{T-and, tried, holds-true, cond-true, cond-false}
 use Rattle.mesh.proofs.Answers.{inside-of, inside-is}
@@ -16,7 +16,7 @@ use Rattle.mesh.specs.declared.Sizes.{Sizes}
 use Rattle.mesh.specs.declared.Place.{Place}
 use Rattle.components.specs.Grid.{gridSize, spot, placeAt, shade, gridAt}
 use Rattle.components.specs.Layout.{Laid, Copied}
-use Rattle.components.proofs.Around.{spot-at, at-spot}
+use Rattle.components.proofs.Around.{at-spot}
 
 -- ---- what the grid holds
 

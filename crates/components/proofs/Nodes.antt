@@ -1,7 +1,7 @@
 -- What the flood leaves in the grid is, said of the nodes, what 01 promises; so it is the definitions' table and records. Assumes nothing.
 use mathlib.Core.Path.{_≡_, refl, sym, ap, _∙_, subst}
-use mathlib.Core.Logic.{_↔_, _⊎_, inl, inr}
-use mathlib.Core.Bool.{Bool, true, false, not, _&&_}
+use mathlib.Core.Logic.{inl, inr}
+use mathlib.Core.Bool.{Bool, not, _&&_}
 use mathlib.Core.List.{List}
 use Prim.Native.Nat.{ℕ, zero, suc, _≤_, _<_}
 use native.Mathlib.Omega.{arith}
@@ -9,8 +9,8 @@ use native.Mathlib.Nat.{eq-or-lt-of-le}
 use lib.Dec.{T, eqb, leb, ltb, ltb→lt, nltb→le, leb→le, nleb→lt}
 use lib.ListN.{length, getD, take, List·getD-eq-default}
 use lib.Seq.{getD-take, length-take-le}
-use Rattle.mesh.specs.Tools.{bit, table, count, any}
-use Rattle.mesh.specs.Mesh.{Axis, X, Y, Z, on, InRange, nodes, placeOf}
+use Rattle.mesh.specs.Tools.{bit, table, count}
+use Rattle.mesh.specs.Mesh.{Axis, X, Y, Z, on, InRange, nodes}
 use Rattle.mesh.proofs.Tests.{T-and, T-any, T-eq, tried, bool-ext}
 use Rattle.mesh.proofs.Tables.{length-table, getD-table}
 use Rattle.mesh.specs.declared.Sizes.{Sizes}
@@ -19,9 +19,9 @@ use Rattle.components.specs.Touch.{unsafe, Joined, itself, further}
 use Rattle.components.specs.Components.{coordinate, tableOf, recordsOf, howMany}
 use Rattle.components.specs.Promise.{Lowest, Numbers, Extent, Records, Promise}
 use Rattle.components.specs.Grid.{gridSize, unseen, placeAt, gridAt, Beside, Linked, here, onward, howOften}
-use Rattle.components.specs.Label.{leastOf, greatestOf, Spans, Recorded, Labelled}
+use Rattle.components.specs.Label.{Spans, Recorded, Labelled}
 use Rattle.components.specs.declared.Component.{Component}
-use Rattle.components.proofs.Joined.{joined-trans, joined-sym, start-unsafe, end-unsafe}
+use Rattle.components.proofs.Joined.{joined-trans, joined-sym, end-unsafe}
 use Rattle.components.proofs.Records.{promise-only}
 use Rattle.components.proofs.Counts.{sum-same, image, image-count}
 use Rattle.components.proofs.Spots.{at, place-at, at-lt, at-eq, at-le, touching-beside, beside-touching, unsafe-node, unsafe-spot, safe-spot, unseen-node, untouched}

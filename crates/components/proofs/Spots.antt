@@ -1,16 +1,16 @@
 -- The nodes of a mesh and their spots in the grid: which spots are unsafe, and that spots keep the order of the nodes. Assumes nothing.
-use mathlib.Core.Path.{_≡_, refl, sym, ap, _∙_, subst}
+use mathlib.Core.Path.{_≡_, refl, sym, ap, _∙_}
 use mathlib.Core.Logic.{_⊎_, inl, inr}
 use mathlib.Core.Bool.{Bool, true, false, cond, not, _&&_}
 use mathlib.Core.List.{List}
-use Prim.Native.Nat.{ℕ, zero, suc, _+_, _-_, _*_, _/_, _%_, _≤_, _<_}
+use Prim.Native.Nat.{ℕ, _+_, _-_, _*_, _/_, _%_, _≤_, _<_}
 use native.Mathlib.Omega.{arith}
 use native.Mathlib.Nat.{mod-add-div, mod-lt, eq-or-lt-of-le}
-use lib.Dec.{T, eqb, leb, ltb, ltb→lt, nltb→le, leb→le, le→leb, nleb→lt}
-use borrow.Author.Tests.{eq-eqb, ne-eqb}
+use lib.Dec.{T, eqb, leb, leb→le, le→leb, nleb→lt}
+use borrow.Author.Tests.{ne-eqb}
 use lib.ListN.{length, getD}
-use Rattle.mesh.specs.Mesh.{InRange, Inside, inside, nodes, number, placeOf}
-use Rattle.mesh.proofs.Tests.{T-and, T-eq, T-no, tried, holds-true, cond-false}
+use Rattle.mesh.specs.Mesh.{InRange, inside, nodes, number, placeOf}
+use Rattle.mesh.proofs.Tests.{T-and, T-eq, T-no, tried, holds-true}
 use Rattle.mesh.proofs.Answers.{inside-of, inside-is}
 use Rattle.mesh.proofs.Numbers.{room, number-of, number-lt, place-in, place-of}
 use Rattle.mesh.specs.declared.Sizes.{Sizes}

@@ -1,7 +1,7 @@
 // One component at a time gets its number, by a queue of the places that have it.
 ghost use mathlib.Core.Path.{_≡_};
-ghost use Prim.Native.Nat.{ℕ, _+_, _<_, _≤_};
-ghost use lib.ListN.{length, getD};
+ghost use Prim.Native.Nat.{ℕ, _+_, _<_};
+ghost use lib.ListN.{getD};
 ghost use Rattle.components.specs.Grid.{gridSize, unseen, Spot, around, howOften};
 ghost use Rattle.components.specs.Flood.{Sized, Visited, Spread, Flooded};
 

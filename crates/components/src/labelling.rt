@@ -6,8 +6,8 @@ use crate::flood::flood;
 use crate::flood::steps_around;
 use crate::recording::record_of;
 ghost use mathlib.Core.Path.{_≡_};
-ghost use Prim.Native.Nat.{ℕ, _+_, _<_, _≤_};
-ghost use lib.ListN.{length, getD};
+ghost use Prim.Native.Nat.{_+_, _<_, _≤_};
+ghost use lib.ListN.{length};
 ghost use Rattle.components.specs.Grid.{gridSize};
 ghost use Rattle.components.specs.Label.{Untouched, Within, Labelled};
 

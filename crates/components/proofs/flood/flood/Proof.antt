@@ -1,10 +1,10 @@
 -- `flood::flood` meets its contract. The loop's invariant: the first `head` places of the queue have been spread from. Assumes nothing.
-use mathlib.Core.Path.{_≡_, refl, sym, ap, _∙_, subst}
-use Prim.Native.Nat.{ℕ, _-_, _+_, _≤_, _<_}
+use mathlib.Core.Path.{_≡_, _∙_}
+use Prim.Native.Nat.{_-_, _<_}
 use native.Mathlib.Omega.{arith}
-use lib.ListN.{length, getD}
+use lib.ListN.{getD}
 use Rattle.components.specs.Grid.{gridSize, unseen, Spot, howOften}
-use Rattle.components.specs.Flood.{Sized, Part}
+use Rattle.components.specs.Flood.{Part}
 use Rattle.components.proofs.Around.{spot-le}
 use Rattle.components.proofs.Parts.{often-le, Drained, begins, drained-more, drained-all}
 use Rattle.components.proofs.flood.flood.Statement.{statement}

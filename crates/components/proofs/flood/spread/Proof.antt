@@ -1,10 +1,10 @@
 -- `flood::spread` meets its contract. The loop's invariant: the first `o` places around are looked at. Assumes nothing.
-use mathlib.Core.Path.{_≡_, refl, sym, ap, _∙_, subst}
+use mathlib.Core.Path.{_≡_, ap, _∙_, subst}
 use mathlib.Core.List.{List}
 use Prim.Native.Nat.{ℕ, _-_, _+_, _≤_, _<_}
 use native.Mathlib.Omega.{arith}
 use lib.ListN.{length, getD}
-use Rattle.components.specs.Grid.{gridSize, unseen, Spot, around}
+use Rattle.components.specs.Grid.{gridSize, Spot, around}
 use Rattle.components.specs.Flood.{Sized, Spread}
 use Rattle.components.proofs.Around.{spot-le, around-le}
 use Rattle.components.proofs.Parts.{spread-none, spread-more, room}

@@ -1,11 +1,11 @@
 -- `grid::copy_layer` meets its contract. The loop's invariant: the rows below `y` are copied. Assumes nothing.
-use mathlib.Core.Path.{_≡_, refl, sym, ap, _∙_, subst}
+use mathlib.Core.Path.{_≡_, refl, ap, _∙_, subst}
 use mathlib.Core.List.{List}
-use Prim.Native.Nat.{ℕ, _+_, _-_, _*_, _≤_, _<_}
+use Prim.Native.Nat.{ℕ, _+_, _-_, _*_, _≤_}
 use native.Mathlib.Omega.{arith}
 use borrow.Author.Needs.{needs}
 use native.Mathlib.Nat.{zero-add}
-use lib.ListN.{length, getD}
+use lib.ListN.{length}
 use Rattle.mesh.proofs.Numbers.{layer-end}
 use Rattle.components.specs.Layout.{Copied}
 use Rattle.components.proofs.Layouts.{row-copied}

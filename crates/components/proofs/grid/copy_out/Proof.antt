@@ -1,9 +1,9 @@
 -- `grid::copy_out` meets its contract. The loop's invariant: the layers below `z` are copied. Assumes nothing.
-use mathlib.Core.Path.{_≡_, refl, sym, ap, _∙_, subst}
-use Prim.Native.Nat.{ℕ, _+_, _-_, _*_, _≤_, _<_}
+use mathlib.Core.Path.{_≡_, refl, _∙_, subst}
+use Prim.Native.Nat.{ℕ, _-_, _*_, _≤_}
 use native.Mathlib.Omega.{arith}
 use native.Mathlib.Nat.{mul-zero}
-use lib.ListN.{length, getD}
+use lib.ListN.{length}
 use Rattle.components.specs.Layout.{Copied}
 use Rattle.components.proofs.Layouts.{copied-none}
 use Rattle.components.proofs.grid.copy_out.Statement.{statement}

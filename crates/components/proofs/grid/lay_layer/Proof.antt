@@ -1,10 +1,8 @@
 -- `grid::lay_layer` meets its contract. The loop's invariant: the rows below `y` are laid. Assumes nothing.
-use mathlib.Core.Path.{_≡_, refl, sym, ap, _∙_, subst}
-use mathlib.Core.List.{List}
-use Prim.Native.Nat.{ℕ, _+_, _-_, _*_, _≤_, _<_}
+use mathlib.Core.Path.{subst}
+use Prim.Native.Nat.{ℕ, _+_, _-_, _*_, _≤_}
 use native.Mathlib.Omega.{arith}
 use borrow.Author.Needs.{needs}
-use lib.ListN.{length, getD}
 use Rattle.components.specs.Layout.{Laid}
 use Rattle.components.proofs.Layouts.{row-laid, layer-laid}
 use Rattle.components.proofs.grid.lay_layer.Statement.{statement}

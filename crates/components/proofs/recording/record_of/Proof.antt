@@ -1,10 +1,8 @@
 -- `recording::record_of` meets its contract. The loop's invariant: the record's box is that of the first `t` places. Assumes nothing.
-use mathlib.Core.Path.{_≡_, refl, sym, ap, _∙_, subst}
-use Prim.Native.Nat.{ℕ, _-_, _+_, _≤_, _<_}
+use mathlib.Core.Path.{_≡_, sym, ap, _∙_, subst}
+use Prim.Native.Nat.{ℕ, _-_, _+_, _≤_}
 use native.Mathlib.Omega.{arith}
-use lib.ListN.{length, getD}
-use Rattle.components.specs.Grid.{gridSize, unseen, Spot}
-use Rattle.components.specs.Label.{alone, widen}
+use Rattle.components.specs.Label.{alone}
 use Rattle.components.specs.declared.Component.{Component}
 use Rattle.components.proofs.Boxes.{Boxed, boxed-one, boxed-more}
 use Rattle.components.proofs.recording.record_of.Statement.{statement}
