@@ -118,10 +118,12 @@ touch-beside p q t =
 
 -- the digits of a sum of bounded coordinates
 digits : (x y z x′ y′ z′ a b c : ℕ) → x < 16 → y < 16 → x′ < 16 → y′ < 16 → a < 3 → b < 3
-    → 307 + (x′ + 17 * y′ + 289 * z′) + 307 ≡ 307 + (x + 17 * y + 289 * z) + (a + 17 * b + 289 * c) → (x′ + 1 ≡ x + a) × (y′ + 1 ≡ y + b) × (z′ + 1 ≡ z + c)
+    → 307 + (x′ + 17 * y′ + 289 * z′) + 307 ≡ 307 + (x + 17 * y + 289 * z) + (a + 17 * b + 289 * c) → (x′ + 1 ≡ x + a)
+    × (y′ + 1 ≡ y + b) × (z′ + 1 ≡ z + c)
 digits x y z x′ y′ z′ a b c hx hy hx′ hy′ ha hb e = (omega arith, omega arith, omega arith)
 
-touch-by : (p q : Place) (a b c : ℕ) → a < 3 → b < 3 → c < 3 → q .x + 1 ≡ p .x + a → q .y + 1 ≡ p .y + b → q .z + 1 ≡ p .z + c → T (turns a b c) → T (touch p q)
+touch-by : (p q : Place) (a b c : ℕ) → a < 3 → b < 3 → c < 3 → q .x + 1 ≡ p .x + a → q .y + 1 ≡ p .y + b → q .z + 1 ≡ p .z + c
+    → T (turns a b c) → T (touch p q)
 unfolding touch
 touch-by p q a b c ha hb hc ea eb ec t =
     let (fx, lx) = gap-of (p .x) (q .x) a ha ea in

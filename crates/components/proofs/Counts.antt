@@ -66,7 +66,13 @@ module _ (f : ℕ → ℕ) (q : ℕ → Bool) (m : ℕ) where
 
       split : (b : Bool) → q n ≡ b → count m (image f q n) ≡ count n q → count m (image f q (suc n)) ≡ bit (q n) + count n q
       split true e ih =
-          omega (arith, sum-raise m (λ j. bit (image f q n j)) (λ j. bit (image f q (suc n) j)) (f n) (lt n (omega arith)) (new e) (old e), ap bit e, ih)
+          omega (
+            arith,
+            sum-raise m (λ j. bit (image f q n j)) (λ j. bit (image f q (suc n) j)) (f n) (lt n (omega arith))
+                (new e) (old e),
+            ap bit e,
+            ih,
+          )
       split false e ih = omega (arith, sum-same m (λ j. bit (image f q (suc n) j)) (λ j. bit (image f q n j)) (λ j _. rw e), ap bit e, ih)
 
 count-every : (n : ℕ) → count n (λ _. true) ≡ n

@@ -41,13 +41,15 @@ pub record Allowed (cells : List ℕ) (answer : Numbered) (table : List ℕ) (ro
 
 -- what it forces
 on-cross : (answer : Numbered) (t : List ℕ) (r : List Component) → Allowed cross answer t r
-    → (answer ≡ Number 1) × (t ≡ 1 ∷ 1 ∷ 0 ∷ 1 ∷ 1 ∷ 1 ∷ 0 ∷ 1 ∷ 1 ∷ []) × (r ≡ record { count = 7; x0 = 0; y0 = 0; z0 = 0; x1 = 2; y1 = 2; z1 = 0 } ∷ [])
+    → (answer ≡ Number 1) × (t ≡ 1 ∷ 1 ∷ 0 ∷ 1 ∷ 1 ∷ 1 ∷ 0 ∷ 1 ∷ 1 ∷ [])
+    × (r ≡ record { count = 7; x0 = 0; y0 = 0; z0 = 0; x1 = 2; y1 = 2; z1 = 0 } ∷ [])
 unfolding table inRange next faultyCell badCell wall firstBad rule marked stuckWithin stuck byteOf markAt marksOf checkMap
     anyOf keep least greatest unsafeNodes touch grown component lowest lowestNodes numberAmong tableOf recordOf recordsOf howMany
     componentsCheck componentsAnswer tableWritten rowWritten
 on-cross answer t r a = (a .answered, a .numbers, a .records)
 
-on-working : (answer : Numbered) (t : List ℕ) (r : List Component) → Allowed working answer t r → (answer ≡ Number 0) × (t ≡ working) × (r ≡ nothing ∷ [])
+on-working : (answer : Numbered) (t : List ℕ) (r : List Component) → Allowed working answer t r → (answer ≡ Number 0)
+    × (t ≡ working) × (r ≡ nothing ∷ [])
 unfolding table inRange next faultyCell badCell wall firstBad rule marked stuckWithin stuck byteOf markAt marksOf checkMap
     anyOf keep least greatest unsafeNodes touch grown component lowest lowestNodes numberAmong tableOf recordOf recordsOf howMany
     componentsCheck componentsAnswer tableWritten rowWritten

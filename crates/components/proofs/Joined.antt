@@ -43,7 +43,8 @@ module _ (S : Sizes) (marks : List ℕ) where
 
   pub joined-sym : {a b : ℕ} → Joined S marks a b → Joined S marks b a
   joined-sym (itself u) = itself u
-  joined-sym {a} (further {b} {c} j t u) = joined-trans (further (itself u) (rw (touch-sym (placeOf S c) (placeOf S b)) t) (end-unsafe j)) (joined-sym j)
+  joined-sym {a} (further {b} {c} j t u) = joined-trans
+      (further (itself u) (rw (touch-sym (placeOf S c) (placeOf S b)) t) (end-unsafe j)) (joined-sym j)
 
 -- ---- the list of unsafe nodes
 
@@ -122,7 +123,8 @@ module _ (S : Sizes) (among : List ℕ) (a : ℕ) where
   component-ascends h = rw last (keep-ascends (asks (length among)) among h)
 
   pub component-kept : component S among a ≡ keep (λ k. isIn k (component S among a)) among
-  component-kept = last ∙ keep-ext (asks (length among)) (λ k. isIn k (component S among a)) among λ k i. (λ t. T-last k .1 (i, t), λ h. T-last k .0 h .1)
+  component-kept = last ∙ keep-ext (asks (length among)) (λ k. isIn k (component S among a)) among λ k i.
+      (λ t. T-last k .1 (i, t), λ h. T-last k .0 h .1)
 
   -- the component has its own node, if that is one of the nodes, and is closed under touching
   own : T (isIn a among) → (n : ℕ) → T (asks n a)
@@ -133,7 +135,8 @@ module _ (S : Sizes) (among : List ℕ) (a : ℕ) where
   unfolding component
   closed j k i t m =
       let n = length among in
-      let hit : T (asks (suc n) k) = T-any-of (grown S among a n) (λ j. eqb j k || touching S j k) .1 (j, i, T-or (eqb j k) (touching S j k) .1 (inr t)) in
+      let hit : T (asks (suc n) k) = T-any-of (grown S among a n) (λ j. eqb j k || touching S j k) .1
+      (j, i, T-or (eqb j k) (touching S j k) .1 (inr t)) in
       let e : keep (asks (suc n)) among ≡ component S among a = sym (kept (suc n)) ∙ settled in
       rw e at (T-keep (asks (suc n)) among k .1 (m, hit))
 

@@ -68,7 +68,8 @@ module _ (S : Sizes) (marks : List ℕ) where
 
     -- a row more, and what lies between it and the next
     pub row-laid : (y z k : ℕ) (new : List ℕ) → y < S .h → z < S .d → k ≡ S .w * (y + S .h * z) → Laid S marks (307 + (17 * y + 289 * z)) g
-        → Filled (λ x. 307 + (17 * y + 289 * z) + x) (λ x. shade (getD marks (k + x) 0)) g new (S .w) → Laid S marks (307 + (17 * (y + 1) + 289 * z)) new
+        → Filled (λ x. 307 + (17 * y + 289 * z) + x) (λ x. shade (getD marks (k + x) 0)) g new (S .w)
+        → Laid S marks (307 + (17 * (y + 1) + 289 * z)) new
     row-laid y z k new hy hz ek L F =
         record {
           long = F .size ∙ L .long;
@@ -112,7 +113,8 @@ module _ (S : Sizes) (g old new : List ℕ) where
         long = F .size ∙ C .long;
         done = λ i h. elim (tried (ltb i k)) [
           | inl t ↦ let lt = ltb→lt i k t in F .kept i (λ x l q. omega arith) ∙ C .done i (omega arith)
-          | inr t ↦ let ge = nltb→le i k t in subst (λ (n : ℕ). getD new n 0 ≡ getD g (spot (placeOf S n)) 0) (omega arith) (in-row (i - k) (omega arith))
+          | inr t ↦ let ge = nltb→le i k t in
+              subst (λ (n : ℕ). getD new n 0 ≡ getD g (spot (placeOf S n)) 0) (omega arith) (in-row (i - k) (omega arith))
         ];
         rest = λ i h. F .kept i (λ x l q. omega arith) ∙ C .rest i (omega arith);
       }

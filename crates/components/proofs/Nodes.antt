@@ -24,7 +24,8 @@ use Rattle.components.specs.declared.Component.{Component}
 use Rattle.components.proofs.Joined.{joined-trans, joined-sym, end-unsafe}
 use Rattle.components.proofs.Records.{promise-only}
 use Rattle.components.proofs.Counts.{sum-same, image, image-count}
-use Rattle.components.proofs.Spots.{at, place-at, at-lt, at-eq, at-le, touching-beside, beside-touching, unsafe-node, unsafe-spot, safe-spot, unseen-node, untouched}
+use Rattle.components.proofs.Spots.{at, place-at, at-lt, at-eq, at-le, touching-beside, beside-touching, unsafe-node, unsafe-spot, safe-spot}
+use Rattle.components.proofs.Spots.{unseen-node, untouched}
 
 module _ (S : Sizes) (r : InRange S) (marks g : List ℕ) (long : length marks ≡ nodes S) (is : (j : ℕ) → getD g j 0 ≡ gridAt S marks j)
     (n : ℕ) (small : n < unseen) (h : List ℕ) (row : List Component) (L : Labelled g gridSize n h row) where
@@ -208,9 +209,14 @@ module _ (S : Sizes) (r : InRange S) (marks g : List ℕ) (long : length marks �
           at-hi = let (j, e, f) = s .at-hi in let (k, u, x) = found j i e l in met k u x e f;
         }
       where
-        met : {j v : ℕ} (k : ℕ) → un k → j ≡ at S k → getD h j 0 ≡ suc i → on (placeAt j) axis ≡ v → (a : ℕ) × (getD numbers a 0 ≡ suc i) × (coordinate S axis a ≡ v)
-        met {j} k u x e f =
-            (k, of-unsafe k u ∙ ap (λ (p : ℕ). getD h p 0) (sym x) ∙ e, sym (lies axis k (node k u)) ∙ ap (λ (p : ℕ). on (placeAt p) axis) (sym x) ∙ f)
+        met : {j v : ℕ} (k : ℕ) → un k → j ≡ at S k → getD h j 0 ≡ suc i → on (placeAt j) axis ≡ v → (a : ℕ)
+            × (getD numbers a 0 ≡ suc i) × (coordinate S axis a ≡ v)
+        met {j} k u x e f = (
+          k,
+          of-unsafe k u ∙ ap (λ (p : ℕ). getD h p 0) (sym x) ∙ e,
+          sym (lies axis k (node k u))
+              ∙ ap (λ (p : ℕ). on (placeAt p) axis) (sym x) ∙ f,
+        )
 
     described : (c : Component) → Recorded h (suc i) c → Records S numbers (suc i) c
     described c R =

@@ -34,7 +34,8 @@ pub fn blank_records() -> [Component; 1024]
 // Numbers the components of a grid whose unsafe places lie in the first h rows of the first d layers.
 pub fn label(grid: &mut [u16], h: usize, d: usize) -> Found
     requires { ⌜ (length (now grid) ≡ gridSize) × Untouched (now grid) × Within h d (now grid) × (d ≤ 16) × (0 < d → h ≤ 16) ⌝ }
-    ensures { λ r. ⌜ Labelled (now (grid .entry)) gridSize (r .count) (now (grid .exit)) (r .records) × (length (r .records) ≡ 1024) × (r .count ≤ 1024) ⌝ }
+    ensures { λ r. ⌜ Labelled (now (grid .entry)) gridSize (r .count) (now (grid .exit)) (r .records)
+        × (length (r .records) ≡ 1024) × (r .count ≤ 1024) ⌝ }
 {
     let steps = steps_around();
     let mut queue = blank_queue();

@@ -41,7 +41,8 @@ led : (c : tie.After-shared-slice-known2 Inv-loop μ-loop) →
 led c =
     let s = c .before .before .before .before .before .before .before .before in
     let o = c .before .before .before .before .loop .o in
-    to (s .args .from) (getD (s .args .steps .now) o 0) o (s .pre .1) (c .before .before .before .loop-test .taken) (ap (λ (l : List ℕ). getD l o 0) (s .pre .4))
+    to (s .args .from) (getD (s .args .steps .now) o 0) o (s .pre .1) (c .before .before .before .loop-test .taken)
+    (ap (λ (l : List ℕ). getD l o 0) (s .pre .4))
 
 add-visit : tie.Need-add-visit Inv-loop μ-loop
 add-visit c = omega (arith, led c)

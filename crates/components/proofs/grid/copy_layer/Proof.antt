@@ -50,7 +50,8 @@ returns c =
     let s = c .before .before .before .before .args in
     λ old C.
     let e : l .y ≡ s .s .h = omega arith in
-    subst (λ (n : ℕ). Copied (s .s) (s .grid .now) old n (l .table)) (ap (λ (y : ℕ). s .s .w * (y + s .s .h * s .z)) e ∙ layer-end (s .s .w) (s .s .h) (s .z)) (l .inv .2 old C)
+    subst (λ (n : ℕ). Copied (s .s) (s .grid .now) old n (l .table))
+    (ap (λ (y : ℕ). s .s .w * (y + s .s .h * s .z)) e ∙ layer-end (s .s .w) (s .s .h) (s .z)) (l .inv .2 old C)
 
 pub copy-layer-spec : {M : Type 1} → statement M
 copy-layer-spec =

@@ -28,8 +28,12 @@ copy-layer-requires c κs =
 loop-again : tie.Need-loop-again Inv-loop μ-loop
 loop-again c =
     let v = c .before .before .copy-layer in
-    let l = c .before .before .before .before .before .loop in
-    (omega arith, v .kept .1 .1 .0 ∙ l .inv .1, v .ensures (c .before .before .before .before .before .before .before .before .args .table .now) (l .inv .2))
+    let l = c .before .before .before .before .before .loop in (
+      omega arith,
+      v .kept .1 .1 .0 ∙ l .inv .1,
+      v .ensures
+          (c .before .before .before .before .before .before .before .before .args .table .now) (l .inv .2),
+    )
 
 returns : tie.Need-returns Inv-loop μ-loop
 returns c =

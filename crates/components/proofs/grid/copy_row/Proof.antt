@@ -27,7 +27,8 @@ loop-again c =
     let l = c .before .before .loop in
     let a = c .before .before .before .args in (
       omega arith,
-      fill-more (λ i. a .k + i) (λ i. getD (a .grid .now) (a .at + i) 0) (a .table .now) (l .table) (l .x) (a .k + l .x) (getD (a .grid .now) (a .at + l .x) 0) (l .inv .1)
+      fill-more (λ i. a .k + i) (λ i. getD (a .grid .now) (a .at + i) 0) (a .table .now) (l .table) (l .x) (a .k + l .x)
+          (getD (a .grid .now) (a .at + l .x) 0) (l .inv .1)
           (omega (arith, l .inv .1 .size)) (λ i h e. omega arith) refl refl,
     )
 

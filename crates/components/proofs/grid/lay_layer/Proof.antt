@@ -21,8 +21,11 @@ loop-holds c =
 
 lay-row-requires : tie.Need-lay-row-requires Inv-loop μ-loop
 lay-row-requires c κs =
-    let r = c .before .row-of .ensures in
-    (omega (arith, r .in-mesh, c .before .before .before .before .before .before .pre .2), omega (arith, r .in-grid, c .before .before .before .loop .inv .1 .long))
+    let r = c .before .row-of .ensures in (
+      omega (arith, r .in-mesh, c .before .before .before .before .before .before .pre .2),
+      omega
+          (arith, r .in-grid, c .before .before .before .loop .inv .1 .long),
+    )
 
 loop-again : tie.Need-loop-again Inv-loop μ-loop
 loop-again c =

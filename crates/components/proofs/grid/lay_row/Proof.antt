@@ -28,7 +28,8 @@ loop-again c =
     let l = c .before .before .before .loop in
     let a = c .before .before .before .before .before .before .args in (
       omega arith,
-      fill-more (λ i. a .at + i) (λ i. shade (getD (a .marks .now) (a .k + i) 0)) (a .grid .now) (l .grid) (l .x) (a .at + l .x) (c .shade .result) (l .inv .1)
+      fill-more (λ i. a .at + i) (λ i. shade (getD (a .marks .now) (a .k + i) 0)) (a .grid .now) (l .grid) (l .x) (a .at + l .x)
+          (c .shade .result) (l .inv .1)
           (omega (arith, l .inv .1 .size)) (λ i h e. omega arith) refl (c .shade .ensures),
     )
 

@@ -40,13 +40,15 @@ mul-place-at : tie.Need-mul-place-at Inv-loop μ-loop
 mul-place-at c = omega (arith, c .before .before .before .before .before .before .pre .2)
 
 shared-slice-read-place-at-2 : tie.Need-shared-slice-read-place-at-2 Inv-loop μ-loop
-shared-slice-read-place-at-2 c = omega (arith, c .before .before .before .before .before .before .before .pre .0, c .before .before .before .before .before .before .before .pre .2)
+shared-slice-read-place-at-2 c = omega
+    (arith, c .before .before .before .before .before .before .before .pre .0, c .before .before .before .before .before .before .before .pre .2)
 
 cast-place-at-2 : tie.Need-cast-place-at-2 Inv-loop μ-loop
 cast-place-at-2 c = omega (arith, c .shared-slice-known3 .given (c .before .before .loop .t))
 
 place-at-requires-2 : tie.Need-place-at-requires-2 Inv-loop μ-loop
-place-at-requires-2 c κs = c .before .before .before .before .before .before .before .pre .3 (c .before .before .loop .t) (c .before .loop-test .taken)
+place-at-requires-2 c κs = c .before .before .before .before .before .before .before .pre .3 (c .before .before .loop .t)
+    (c .before .loop-test .taken)
 
 widened-requires : tie.Need-widened-requires Inv-loop μ-loop
 widened-requires c κs = let (e, x, y, z) = c .place-at2 .ensures in (x, y, z)
