@@ -1,18 +1,16 @@
 -- The grid: places and spots undo each other, and the eighteen steps around a spot are those to the touching places. Assumes nothing.
-use mathlib.Core.Path.{_≡_, refl, sym, ap, _∙_, subst}
-use mathlib.Core.Logic.{_↔_, _⊎_, inl, inr}
-use mathlib.Core.Bool.{Bool, true, false, _&&_}
-use mathlib.Core.List.{List}
-use Prim.Native.Nat.{ℕ, zero, suc, _+_, _-_, _*_, _/_, _%_, _≤_, _<_}
+use mathlib.Core.Path.{_≡_}
+use mathlib.Core.Bool.{Bool, _&&_}
+use Prim.Native.Nat.{ℕ, _+_, _-_, _*_, _/_, _%_, _≤_, _<_}
 use native.Mathlib.Omega.{arith}
 use lib.Dec.{T, leb, ltb, leb→le, le→leb, ltb→lt, eqb}
 use lib.ListN.{getD}
 use Rattle.mesh.specs.Tools.{all, any, implies, between}
-use Rattle.mesh.specs.Mesh.{Axis, X, Y, Z, every}
-use Rattle.mesh.proofs.Tests.{T-all, T-any, T-and, T-implies, T-eq, T-le, T-lt, T-every}
+use Rattle.mesh.specs.Mesh.{X, Y, Z, every}
+use Rattle.mesh.proofs.Tests.{T-all, T-any, T-and, T-implies, T-eq, T-every}
 use Rattle.mesh.specs.declared.Place.{Place}
 use Rattle.components.specs.Touch.{apart, touch}
-use Rattle.components.specs.Grid.{gridSize, spot, placeAt, Spot, around, Beside}
+use Rattle.components.specs.Grid.{spot, placeAt, Spot, around, Beside}
 
 -- ---- the steps stay in the grid
 
@@ -120,10 +118,12 @@ touch-beside p q t =
 
 -- the digits of a sum of bounded coordinates
 digits : (x y z x′ y′ z′ a b c : ℕ) → x < 16 → y < 16 → x′ < 16 → y′ < 16 → a < 3 → b < 3
-    → 307 + (x′ + 17 * y′ + 289 * z′) + 307 ≡ 307 + (x + 17 * y + 289 * z) + (a + 17 * b + 289 * c) → (x′ + 1 ≡ x + a) × (y′ + 1 ≡ y + b) × (z′ + 1 ≡ z + c)
+    → 307 + (x′ + 17 * y′ + 289 * z′) + 307 ≡ 307 + (x + 17 * y + 289 * z) + (a + 17 * b + 289 * c) → (x′ + 1 ≡ x + a)
+    × (y′ + 1 ≡ y + b) × (z′ + 1 ≡ z + c)
 digits x y z x′ y′ z′ a b c hx hy hx′ hy′ ha hb e = (omega arith, omega arith, omega arith)
 
-touch-by : (p q : Place) (a b c : ℕ) → a < 3 → b < 3 → c < 3 → q .x + 1 ≡ p .x + a → q .y + 1 ≡ p .y + b → q .z + 1 ≡ p .z + c → T (turns a b c) → T (touch p q)
+touch-by : (p q : Place) (a b c : ℕ) → a < 3 → b < 3 → c < 3 → q .x + 1 ≡ p .x + a → q .y + 1 ≡ p .y + b → q .z + 1 ≡ p .z + c
+    → T (turns a b c) → T (touch p q)
 unfolding touch
 touch-by p q a b c ha hb hc ea eb ec t =
     let (fx, lx) = gap-of (p .x) (q .x) a ha ea in

@@ -1,12 +1,12 @@
 -- The box around the places of a queue grows by one place at a time. Assumes nothing.
-use mathlib.Core.Path.{_≡_, refl, sym, ap, _∙_, subst}
-use mathlib.Core.Logic.{_⊎_, inl, inr}
+use mathlib.Core.Path.{_≡_, sym, ap, _∙_}
+use mathlib.Core.Logic.{inl, inr}
 use mathlib.Core.List.{List}
-use Prim.Native.Nat.{ℕ, suc, _+_, _≤_, _<_, min, max}
+use Prim.Native.Nat.{ℕ, _+_, min, max}
 use native.Mathlib.Omega.{arith}
 use native.Mathlib.Numerals.{add-one}
 use native.Mathlib.Nat.{eq-or-lt-of-le, le-of-suc-le-suc, min-eq-left, min-eq-right, max-eq-left, max-eq-right}
-use lib.Dec.{T, leb, leb→le, nleb→lt}
+use lib.Dec.{leb, leb→le, nleb→lt}
 use lib.ListN.{getD}
 use Rattle.mesh.specs.Mesh.{Axis, X, Y, Z, on}
 use Rattle.mesh.proofs.Tests.{tried}

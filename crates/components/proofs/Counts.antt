@@ -1,14 +1,14 @@
 -- Sums and counts over 0 .. n - 1: one summand more, and what is counted elsewhere. Assumes nothing.
-use mathlib.Core.Path.{_≡_, refl, sym, ap, _∙_}
+use mathlib.Core.Path.{_≡_, refl, sym, ap}
 use mathlib.Core.Logic.{_⊎_, inl, inr}
 use mathlib.Core.Bool.{Bool, true, false, _&&_}
 use Prim.Native.Nat.{ℕ, zero, suc, _+_, _≤_, _<_}
 use native.Mathlib.Omega.{arith}
 use native.Mathlib.Nat.{eq-or-lt-of-le, le-of-suc-le-suc}
-use lib.Dec.{T, eqb}
+use lib.Dec.{eqb}
 use borrow.Author.Tests.{eq-eqb, ne-eqb}
 use Rattle.mesh.specs.Tools.{bit, sum, count, any}
-use Rattle.mesh.proofs.Tests.{T-and, T-eq, T-no, T-any, tried, bool-ext, holds-true}
+use Rattle.mesh.proofs.Tests.{T-and, T-eq, T-no, T-any, tried, holds-true}
 use Rattle.mesh.proofs.Tables.{sum-zero}
 
 pub same-or-not : (i j : ℕ) → (i ≡ j) ⊎ (i ≡ j → ⊥)
@@ -66,7 +66,13 @@ module _ (f : ℕ → ℕ) (q : ℕ → Bool) (m : ℕ) where
 
       split : (b : Bool) → q n ≡ b → count m (image f q n) ≡ count n q → count m (image f q (suc n)) ≡ bit (q n) + count n q
       split true e ih =
-          omega (arith, sum-raise m (λ j. bit (image f q n j)) (λ j. bit (image f q (suc n) j)) (f n) (lt n (omega arith)) (new e) (old e), ap bit e, ih)
+          omega (
+            arith,
+            sum-raise m (λ j. bit (image f q n j)) (λ j. bit (image f q (suc n) j)) (f n) (lt n (omega arith))
+                (new e) (old e),
+            ap bit e,
+            ih,
+          )
       split false e ih = omega (arith, sum-same m (λ j. bit (image f q (suc n) j)) (λ j. bit (image f q n j)) (λ j _. rw e), ap bit e, ih)
 
 count-every : (n : ℕ) → count n (λ _. true) ≡ n

@@ -1,9 +1,9 @@
 -- There are at most 1,024 components: two unsafe nodes with the same x and the same halves of y and z touch. Assumes nothing.
-use mathlib.Core.Path.{_≡_, refl, sym, ap, _∙_, subst}
+use mathlib.Core.Path.{_≡_, sym, ap, _∙_}
 use mathlib.Core.Logic.{_⊎_, inl, inr}
-use mathlib.Core.Bool.{Bool, true, false, not, _&&_, _||_}
+use mathlib.Core.Bool.{Bool, not, _&&_, _||_}
 use mathlib.Core.List.{List}
-use Prim.Native.Nat.{ℕ, zero, suc, _+_, _-_, _*_, _/_, _%_, _≤_, _<_}
+use Prim.Native.Nat.{ℕ, suc, _+_, _-_, _*_, _/_, _%_, _≤_, _<_}
 use native.Mathlib.Omega.{arith}
 use lib.Dec.{T, eqb, ltb, ltb→lt, nltb→le, lit<}
 use lib.ListN.{getD}
@@ -53,7 +53,8 @@ stays-or-turns b c hb hc =
 abbrev blockOf : ℕ → ℕ
 blockOf j = block ((j - 307) % 17) ((j - 307) / 17 % 17) ((j - 307) / 289)
 
-stepped : (i j x y z x′ y′ z′ b c : ℕ) → i ≡ 307 + (x + 17 * y + 289 * z) → j ≡ 307 + (x′ + 17 * y′ + 289 * z′) → x ≡ x′ → y′ + 1 ≡ y + b → z′ + 1 ≡ z + c
+stepped : (i j x y z x′ y′ z′ b c : ℕ) → i ≡ 307 + (x + 17 * y + 289 * z) → j ≡ 307 + (x′ + 17 * y′ + 289 * z′) → x ≡ x′
+    → y′ + 1 ≡ y + b → z′ + 1 ≡ z + c
     → j + 307 ≡ i + step 1 b c
 stepped i j x y z x′ y′ z′ b c ei ej ex ey ez = omega arith
 
@@ -66,7 +67,8 @@ near i j s t e = by-places (placeAt i) (placeAt j) (sym (spot-at i (s .inner))) 
     half : (y : ℕ) → y < 16 → y / 2 < 8
     half y h = omega arith
 
-    by-places : (p q : Place) → i ≡ spot p → j ≡ spot q → p .x < 16 → p .y < 16 → q .x < 16 → q .y < 16 → block (p .x) (p .y) (p .z) ≡ block (q .x) (q .y) (q .z) → (i ≡ j) ⊎ Beside i j
+    by-places : (p q : Place) → i ≡ spot p → j ≡ spot q → p .x < 16 → p .y < 16 → q .x < 16 → q .y < 16
+        → block (p .x) (p .y) (p .z) ≡ block (q .x) (q .y) (q .z) → (i ≡ j) ⊎ Beside i j
     by-places p q ei ej hx hy hx′ hy′ e =
         let (ex, ey, ez) = block-eq (p .x) (p .y / 2) (p .z / 2) (q .x) (q .y / 2) (q .z / 2) hx (half (p .y) hy) hx′ (half (q .y) hy′) e in
         let (b, hb, eb) = halves (p .y) (q .y) ey in
@@ -79,7 +81,8 @@ near i j s t e = by-places (placeAt i) (placeAt j) (sym (spot-at i (s .inner))) 
 
 -- ---- one more component than 1,024 cannot be
 
-module _ (g : List ℕ) (k n : ℕ) (h : List ℕ) (row : List Component) (L : Labelled g k n h row) (un : Untouched g) (u : getD h k 0 ≡ unseen) (small : suc n < unseen) where
+module _ (g : List ℕ) (k n : ℕ) (h : List ℕ) (row : List Component) (L : Labelled g k n h row) (un : Untouched g)
+    (u : getD h k 0 ≡ unseen) (small : suc n < unseen) where
   -- a place of each component, and k after them; what it holds
   abbrev Case : ℕ → Type 0
   Case i = T (ltb i n) ⊎ T (not (ltb i n))

@@ -1,4 +1,5 @@
--- An array in a local, for a proof that walks code by hand: as it is stored it is its elements in memory, side by side, and they are room again in the end;
+-- An array in a local, for a proof that walks code by hand: as it is stored it is its elements in memory, side by side, and they are room
+-- again in the end;
 -- and what is known of an array of tuples is known of the array of the structs that they are the fields of. Assumes nothing.
 use mathlib.Core.Path.{_∙_, sym}
 use mathlib.Core.List.{List, [], _∷_, map}
@@ -21,13 +22,17 @@ use denote.Shadow.{shadow}
 use denote.Array.{Array, each}
 use denote.ArrayMemory.{Single, array-apart, array-whole}
 
-module _ {M : Type 1} (𝓤 : URA M) (H : Heap 𝓤) (A : Atoms 𝓤) (W : Given 𝓤 H A) (R : RattleType) (single : Single (R .mir)) (n : ℕ) (xs : List (R .Denot)) (b o : ℕ) where
-  pub elements : (v : Val) → ent 𝓤 (sep 𝓤 (H .at fullShare (tyArray (lone (R .mir)) n) b o v) (sem 𝓤 H A (Array R n .own xs (v ∷ [])))) (sem 𝓤 H A (arr-parts (shares R) n .part fullShare xs b o))
+module _ {M : Type 1} (𝓤 : URA M) (H : Heap 𝓤) (A : Atoms 𝓤) (W : Given 𝓤 H A) (R : RattleType) (single : Single (R .mir))
+    (n : ℕ) (xs : List (R .Denot)) (b o : ℕ) where
+  pub elements : (v : Val) → ent 𝓤
+      (sep 𝓤 (H .at fullShare (tyArray (lone (R .mir)) n) b o v) (sem 𝓤 H A (Array R n .own xs (v ∷ []))))
+      (sem 𝓤 H A (arr-parts (shares R) n .part fullShare xs b o))
   unfolding partOf
   elements v =
       via 𝓤 (sem 𝓤 H A (partAt (Array R n) fullShare xs b o))
       (qed W (‵ (fat fullShare (tyArray (lone (R .mir)) n) b o v) ∷ ‵ (Array R n .own xs (v ∷ [])) ∷ []) ∵
-      use1 W (‵ (cellAt fullShare (tyArray (lone (R .mir)) n ∷ []) (v ∷ []) b o)) (W .laws .at-raw fullShare (tyArray (lone (R .mir)) n) b o v) $ fjoin ! $
+      use1 W (‵ (cellAt fullShare (tyArray (lone (R .mir)) n ∷ []) (v ∷ []) b o))
+      (W .laws .at-raw fullShare (tyArray (lone (R .mir)) n) b o v) $ fjoin ! $
       fpack ! (List Val) (λ vs. fsep (cellAt fullShare (tyArray (lone (R .mir)) n ∷ []) vs b o) (Array R n .own xs vs)) (v ∷ []) $ done !)
       (array-apart 𝓤 H A W R fullShare single n xs b o)
 

@@ -1,9 +1,9 @@
 -- Impostors: what no function that meets the contract of the components' call does, by what it forces on case 10 of 01. Assumes nothing.
-use mathlib.Core.Path.{_≡_, refl, sym, ap, _∙_}
+use mathlib.Core.Path.{_≡_, ap}
 use mathlib.Core.List.{List, [], _∷_}
 use Prim.Native.Nat.{ℕ}
 use native.Mathlib.Omega.{arith}
-use lib.ListN.{length, getD, replicate}
+use lib.ListN.{getD, replicate}
 use Rattle.mesh.specs.Tools.{table}
 use Rattle.mesh.specs.Mesh.{sizes, inRange}
 use Rattle.mesh.specs.Steps.{next}
@@ -41,13 +41,15 @@ pub record Allowed (cells : List ℕ) (answer : Numbered) (table : List ℕ) (ro
 
 -- what it forces
 on-cross : (answer : Numbered) (t : List ℕ) (r : List Component) → Allowed cross answer t r
-    → (answer ≡ Number 1) × (t ≡ 1 ∷ 1 ∷ 0 ∷ 1 ∷ 1 ∷ 1 ∷ 0 ∷ 1 ∷ 1 ∷ []) × (r ≡ record { count = 7; x0 = 0; y0 = 0; z0 = 0; x1 = 2; y1 = 2; z1 = 0 } ∷ [])
+    → (answer ≡ Number 1) × (t ≡ 1 ∷ 1 ∷ 0 ∷ 1 ∷ 1 ∷ 1 ∷ 0 ∷ 1 ∷ 1 ∷ [])
+    × (r ≡ record { count = 7; x0 = 0; y0 = 0; z0 = 0; x1 = 2; y1 = 2; z1 = 0 } ∷ [])
 unfolding table inRange next faultyCell badCell wall firstBad rule marked stuckWithin stuck byteOf markAt marksOf checkMap
     anyOf keep least greatest unsafeNodes touch grown component lowest lowestNodes numberAmong tableOf recordOf recordsOf howMany
     componentsCheck componentsAnswer tableWritten rowWritten
 on-cross answer t r a = (a .answered, a .numbers, a .records)
 
-on-working : (answer : Numbered) (t : List ℕ) (r : List Component) → Allowed working answer t r → (answer ≡ Number 0) × (t ≡ working) × (r ≡ nothing ∷ [])
+on-working : (answer : Numbered) (t : List ℕ) (r : List Component) → Allowed working answer t r → (answer ≡ Number 0)
+    × (t ≡ working) × (r ≡ nothing ∷ [])
 unfolding table inRange next faultyCell badCell wall firstBad rule marked stuckWithin stuck byteOf markAt marksOf checkMap
     anyOf keep least greatest unsafeNodes touch grown component lowest lowestNodes numberAmong tableOf recordOf recordsOf howMany
     componentsCheck componentsAnswer tableWritten rowWritten

@@ -2,21 +2,20 @@
 -- nodes to add than rounds. Assumes nothing.
 use mathlib.Core.Path.{_≡_, refl, sym, ap, _∙_, subst}
 use mathlib.Core.Logic.{_↔_, _⊎_, inl, inr}
-use mathlib.Core.Bool.{Bool, true, false, not, _&&_, _||_}
-use mathlib.Core.List.{List, [], _∷_}
-use Prim.Native.Nat.{ℕ, zero, suc, _+_, _-_, _≤_, _<_}
+use mathlib.Core.Bool.{Bool, not, _||_}
+use mathlib.Core.List.{List}
+use Prim.Native.Nat.{ℕ, zero, suc, _-_, _≤_, _<_}
 use native.Mathlib.Omega.{arith}
-use native.Mathlib.Nat.{add-comm}
-use lib.Dec.{T, T-not, eqb, leb, nleb→lt, leb→le, eqb-refl}
-use lib.ListN.{length, getD, List·getD-eq-default}
-use Rattle.mesh.specs.Tools.{between, table}
-use Rattle.mesh.specs.Mesh.{Axis, X, Y, Z, every, placeOf}
-use Rattle.mesh.proofs.Tests.{T-or, T-eq, T-no, T-lt, tried}
+use lib.Dec.{T, eqb, leb, nleb→lt, leb→le, eqb-refl}
+use lib.ListN.{length, List·getD-eq-default}
+use Rattle.mesh.specs.Tools.{table}
+use Rattle.mesh.specs.Mesh.{Axis, X, Y, Z, placeOf}
+use Rattle.mesh.proofs.Tests.{T-or, T-eq, tried}
 use Rattle.mesh.specs.declared.Sizes.{Sizes}
 use Rattle.mesh.specs.declared.Place.{Place}
-use Rattle.components.specs.Lists.{anyOf, isIn, keep}
+use Rattle.components.specs.Lists.{isIn, keep}
 use Rattle.components.specs.Touch.{unsafe, unsafeNodes, apart, touch, touching, Joined, itself, further, near, grown, component, joined}
-use Rattle.components.proofs.Lists.{T-any-of, T-keep, keep-few, keep-le, keep-tight, keep-ext, T-table, Ascending, keep-ascends, table-ascends}
+use Rattle.components.proofs.Lists.{T-any-of, T-keep, keep-few, keep-tight, keep-ext, T-table, Ascending, keep-ascends, table-ascends}
 
 -- ---- touching goes both ways
 
@@ -44,7 +43,8 @@ module _ (S : Sizes) (marks : List ℕ) where
 
   pub joined-sym : {a b : ℕ} → Joined S marks a b → Joined S marks b a
   joined-sym (itself u) = itself u
-  joined-sym {a} (further {b} {c} j t u) = joined-trans (further (itself u) (rw (touch-sym (placeOf S c) (placeOf S b)) t) (end-unsafe j)) (joined-sym j)
+  joined-sym {a} (further {b} {c} j t u) = joined-trans
+      (further (itself u) (rw (touch-sym (placeOf S c) (placeOf S b)) t) (end-unsafe j)) (joined-sym j)
 
 -- ---- the list of unsafe nodes
 
@@ -123,7 +123,8 @@ module _ (S : Sizes) (among : List ℕ) (a : ℕ) where
   component-ascends h = rw last (keep-ascends (asks (length among)) among h)
 
   pub component-kept : component S among a ≡ keep (λ k. isIn k (component S among a)) among
-  component-kept = last ∙ keep-ext (asks (length among)) (λ k. isIn k (component S among a)) among λ k i. (λ t. T-last k .1 (i, t), λ h. T-last k .0 h .1)
+  component-kept = last ∙ keep-ext (asks (length among)) (λ k. isIn k (component S among a)) among λ k i.
+      (λ t. T-last k .1 (i, t), λ h. T-last k .0 h .1)
 
   -- the component has its own node, if that is one of the nodes, and is closed under touching
   own : T (isIn a among) → (n : ℕ) → T (asks n a)
@@ -134,7 +135,8 @@ module _ (S : Sizes) (among : List ℕ) (a : ℕ) where
   unfolding component
   closed j k i t m =
       let n = length among in
-      let hit : T (asks (suc n) k) = T-any-of (grown S among a n) (λ j. eqb j k || touching S j k) .1 (j, i, T-or (eqb j k) (touching S j k) .1 (inr t)) in
+      let hit : T (asks (suc n) k) = T-any-of (grown S among a n) (λ j. eqb j k || touching S j k) .1
+      (j, i, T-or (eqb j k) (touching S j k) .1 (inr t)) in
       let e : keep (asks (suc n)) among ≡ component S among a = sym (kept (suc n)) ∙ settled in
       rw e at (T-keep (asks (suc n)) among k .1 (m, hit))
 

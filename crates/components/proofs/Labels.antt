@@ -1,13 +1,12 @@
 -- One component after another gets its number: what is promised of the grid holds before the first, and is kept by the next. Assumes nothing.
-use mathlib.Core.Path.{_≡_, refl, sym, ap, _∙_, subst}
-use mathlib.Core.Logic.{_↔_, _⊎_, inl, inr}
-use mathlib.Core.Bool.{Bool}
+use mathlib.Core.Path.{_≡_, refl, sym, ap, _∙_}
+use mathlib.Core.Logic.{_⊎_, inl, inr}
 use mathlib.Core.List.{List}
-use Prim.Native.Nat.{ℕ, zero, suc, _+_, _≤_, _<_}
+use Prim.Native.Nat.{ℕ, suc, _+_, _≤_, _<_}
 use native.Mathlib.Omega.{arith}
 use native.Mathlib.Numerals.{add-one}
 use native.Mathlib.Nat.{eq-or-lt-of-le, le-of-suc-le-suc}
-use lib.Dec.{T, eqb, ltb, ltb→lt, nltb→le}
+use lib.Dec.{eqb, ltb, ltb→lt, nltb→le}
 use lib.ListN.{length, getD, set}
 use lib.Seq.{getD-set-same, getD-set-other}
 use Rattle.mesh.specs.Tools.{bit, count}
@@ -108,7 +107,14 @@ module _ (g : List ℕ) (k n : ℕ) (h : List ℕ) (row : List Component) (L : L
                 | inr w ↦ w .1 ∙ sym e
                 | inl w ↦ elim (L .kept j) [
                   | inl v ↦ absurd (F .closed t j l (rw f b) (w ∙ v ∙ u))
-                  | inr v ↦ absurd (omega (arith, v .1, v .2, new-there i e, L .closed j i (v .1) (v .2) (beside-sym i j b) (was-unseen i (new-there i e))))
+                  | inr v ↦ absurd (omega (
+                    arith,
+                    v .1,
+                    v .2,
+                    new-there i e,
+                    L .closed j i (v .1) (v .2) (beside-sym i j b)
+                        (was-unseen i (new-there i e)),
+                  ))
                 ]
               ]
 
@@ -166,7 +172,8 @@ module _ (g : List ℕ) (k n : ℕ) (h : List ℕ) (row : List Component) (L : L
       module _ (c : Component) (e : c .count ≡ m) (b : Boxed q m c) (r : n < length row) where
         more-recorded : (i : ℕ) (d : Component) → i < suc n → Recorded h′ (suc i) (getD (set row n c) i d)
         more-recorded i d l = elim (same-or-not i n) [
-          | inl w ↦ rw (w, getD-set-same row n c d r) (record { members = e ∙ sym (F .counted); spans = λ a. new-spans a (leastOf c a) (greatestOf c a) (b a) })
+          | inl w ↦ rw (w, getD-set-same row n c d r)
+              (record { members = e ∙ sym (F .counted); spans = λ a. new-spans a (leastOf c a) (greatestOf c a) (b a) })
           | inr w ↦ rw (getD-set-other row n i c d w) (old (lower w) (L .recorded i d (lower w)))
         ]
           where

@@ -1,13 +1,13 @@
 -- The mesh in the grid, row after row: what lies between two rows, and between two layers, is no place of the mesh. Assumes nothing.
 use mathlib.Core.Path.{_≡_, refl, sym, ap, _∙_, subst}
-use mathlib.Core.Logic.{_⊎_, inl, inr}
-use mathlib.Core.Bool.{Bool, true, false, cond, not, _&&_}
+use mathlib.Core.Logic.{inl, inr}
+use mathlib.Core.Bool.{Bool, cond, _&&_}
 use mathlib.Core.List.{List}
-use Prim.Native.Nat.{ℕ, _+_, _-_, _*_, _/_, _%_, _≤_, _<_}
+use Prim.Native.Nat.{ℕ, _+_, _-_, _*_, _≤_, _<_}
 use native.Mathlib.Omega.{arith}
-use lib.Dec.{T, leb, le→leb, leb→le, ltb, ltb→lt, nltb→le, not-T}
+use lib.Dec.{leb, le→leb, leb→le, ltb, ltb→lt, nltb→le, not-T}
 use lib.ListN.{length, getD}
-use Rattle.mesh.specs.Mesh.{place, InRange, Inside, inside, nodes, number, placeOf}
+use Rattle.mesh.specs.Mesh.{place, InRange, Inside, inside, number, placeOf}
 use Rattle.mesh.specs.Fill.{Filled}
 use Rattle.mesh.proofs.Tests.{T-and, tried, holds-true, cond-true, cond-false}
 use Rattle.mesh.proofs.Answers.{inside-of, inside-is}
@@ -16,7 +16,7 @@ use Rattle.mesh.specs.declared.Sizes.{Sizes}
 use Rattle.mesh.specs.declared.Place.{Place}
 use Rattle.components.specs.Grid.{gridSize, spot, placeAt, shade, gridAt}
 use Rattle.components.specs.Layout.{Laid, Copied}
-use Rattle.components.proofs.Around.{spot-at, at-spot}
+use Rattle.components.proofs.Around.{at-spot}
 
 -- ---- what the grid holds
 
@@ -67,8 +67,9 @@ module _ (S : Sizes) (marks : List ℕ) where
     ]
 
     -- a row more, and what lies between it and the next
-    pub row-laid : (y z k : ℕ) (new : List ℕ) → y < S .h → z < S .d → k ≡ 0 + S .w * (y + S .h * z) → Laid S marks (307 + (17 * y + 289 * z)) g
-        → Filled (λ x. 307 + (17 * y + 289 * z) + x) (λ x. shade (getD marks (k + x) 0)) g new (S .w) → Laid S marks (307 + (17 * (y + 1) + 289 * z)) new
+    pub row-laid : (y z k : ℕ) (new : List ℕ) → y < S .h → z < S .d → k ≡ S .w * (y + S .h * z) → Laid S marks (307 + (17 * y + 289 * z)) g
+        → Filled (λ x. 307 + (17 * y + 289 * z) + x) (λ x. shade (getD marks (k + x) 0)) g new (S .w)
+        → Laid S marks (307 + (17 * (y + 1) + 289 * z)) new
     row-laid y z k new hy hz ek L F =
         record {
           long = F .size ∙ L .long;
@@ -104,7 +105,7 @@ module _ (S : Sizes) (g old new : List ℕ) where
   pub copied-none : Copied S g old 0 old
   copied-none = record { long = refl; done = λ k h. absurd (omega arith); rest = λ k h. refl }
 
-  pub row-copied : (y z k : ℕ) (mid : List ℕ) → y < S .h → z < S .d → k ≡ 0 + S .w * (y + S .h * z) → Copied S g old (S .w * (y + S .h * z)) mid
+  pub row-copied : (y z k : ℕ) (mid : List ℕ) → y < S .h → z < S .d → k ≡ S .w * (y + S .h * z) → Copied S g old (S .w * (y + S .h * z)) mid
       → Filled (λ x. k + x) (λ x. getD g (307 + (17 * y + 289 * z) + x) 0) mid new (S .w) → Copied S g old (S .w * (y + 1 + S .h * z)) new
   row-copied y z k mid hy hz ek C F =
       let e = row-end (S .w) (S .h) y z in
@@ -112,7 +113,8 @@ module _ (S : Sizes) (g old new : List ℕ) where
         long = F .size ∙ C .long;
         done = λ i h. elim (tried (ltb i k)) [
           | inl t ↦ let lt = ltb→lt i k t in F .kept i (λ x l q. omega arith) ∙ C .done i (omega arith)
-          | inr t ↦ let ge = nltb→le i k t in subst (λ (n : ℕ). getD new n 0 ≡ getD g (spot (placeOf S n)) 0) (omega arith) (in-row (i - k) (omega arith))
+          | inr t ↦ let ge = nltb→le i k t in
+              subst (λ (n : ℕ). getD new n 0 ≡ getD g (spot (placeOf S n)) 0) (omega arith) (in-row (i - k) (omega arith))
         ];
         rest = λ i h. F .kept i (λ x l q. omega arith) ∙ C .rest i (omega arith);
       }

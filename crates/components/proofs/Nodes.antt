@@ -1,7 +1,7 @@
 -- What the flood leaves in the grid is, said of the nodes, what 01 promises; so it is the definitions' table and records. Assumes nothing.
 use mathlib.Core.Path.{_≡_, refl, sym, ap, _∙_, subst}
-use mathlib.Core.Logic.{_↔_, _⊎_, inl, inr}
-use mathlib.Core.Bool.{Bool, true, false, not, _&&_}
+use mathlib.Core.Logic.{inl, inr}
+use mathlib.Core.Bool.{Bool, not, _&&_}
 use mathlib.Core.List.{List}
 use Prim.Native.Nat.{ℕ, zero, suc, _≤_, _<_}
 use native.Mathlib.Omega.{arith}
@@ -9,8 +9,8 @@ use native.Mathlib.Nat.{eq-or-lt-of-le}
 use lib.Dec.{T, eqb, leb, ltb, ltb→lt, nltb→le, leb→le, nleb→lt}
 use lib.ListN.{length, getD, take, List·getD-eq-default}
 use lib.Seq.{getD-take, length-take-le}
-use Rattle.mesh.specs.Tools.{bit, table, count, any}
-use Rattle.mesh.specs.Mesh.{Axis, X, Y, Z, on, InRange, nodes, placeOf}
+use Rattle.mesh.specs.Tools.{bit, table, count}
+use Rattle.mesh.specs.Mesh.{Axis, X, Y, Z, on, InRange, nodes}
 use Rattle.mesh.proofs.Tests.{T-and, T-any, T-eq, tried, bool-ext}
 use Rattle.mesh.proofs.Tables.{length-table, getD-table}
 use Rattle.mesh.specs.declared.Sizes.{Sizes}
@@ -19,12 +19,13 @@ use Rattle.components.specs.Touch.{unsafe, Joined, itself, further}
 use Rattle.components.specs.Components.{coordinate, tableOf, recordsOf, howMany}
 use Rattle.components.specs.Promise.{Lowest, Numbers, Extent, Records, Promise}
 use Rattle.components.specs.Grid.{gridSize, unseen, placeAt, gridAt, Beside, Linked, here, onward, howOften}
-use Rattle.components.specs.Label.{leastOf, greatestOf, Spans, Recorded, Labelled}
+use Rattle.components.specs.Label.{Spans, Recorded, Labelled}
 use Rattle.components.specs.declared.Component.{Component}
-use Rattle.components.proofs.Joined.{joined-trans, joined-sym, start-unsafe, end-unsafe}
+use Rattle.components.proofs.Joined.{joined-trans, joined-sym, end-unsafe}
 use Rattle.components.proofs.Records.{promise-only}
 use Rattle.components.proofs.Counts.{sum-same, image, image-count}
-use Rattle.components.proofs.Spots.{at, place-at, at-lt, at-eq, at-le, touching-beside, beside-touching, unsafe-node, unsafe-spot, safe-spot, unseen-node, untouched}
+use Rattle.components.proofs.Spots.{at, place-at, at-lt, at-eq, at-le, touching-beside, beside-touching, unsafe-node, unsafe-spot, safe-spot}
+use Rattle.components.proofs.Spots.{unseen-node, untouched}
 
 module _ (S : Sizes) (r : InRange S) (marks g : List ℕ) (long : length marks ≡ nodes S) (is : (j : ℕ) → getD g j 0 ≡ gridAt S marks j)
     (n : ℕ) (small : n < unseen) (h : List ℕ) (row : List Component) (L : Labelled g gridSize n h row) where
@@ -208,9 +209,14 @@ module _ (S : Sizes) (r : InRange S) (marks g : List ℕ) (long : length marks �
           at-hi = let (j, e, f) = s .at-hi in let (k, u, x) = found j i e l in met k u x e f;
         }
       where
-        met : {j v : ℕ} (k : ℕ) → un k → j ≡ at S k → getD h j 0 ≡ suc i → on (placeAt j) axis ≡ v → (a : ℕ) × (getD numbers a 0 ≡ suc i) × (coordinate S axis a ≡ v)
-        met {j} k u x e f =
-            (k, of-unsafe k u ∙ ap (λ (p : ℕ). getD h p 0) (sym x) ∙ e, sym (lies axis k (node k u)) ∙ ap (λ (p : ℕ). on (placeAt p) axis) (sym x) ∙ f)
+        met : {j v : ℕ} (k : ℕ) → un k → j ≡ at S k → getD h j 0 ≡ suc i → on (placeAt j) axis ≡ v → (a : ℕ)
+            × (getD numbers a 0 ≡ suc i) × (coordinate S axis a ≡ v)
+        met {j} k u x e f = (
+          k,
+          of-unsafe k u ∙ ap (λ (p : ℕ). getD h p 0) (sym x) ∙ e,
+          sym (lies axis k (node k u))
+              ∙ ap (λ (p : ℕ). on (placeAt p) axis) (sym x) ∙ f,
+        )
 
     described : (c : Component) → Recorded h (suc i) c → Records S numbers (suc i) c
     described c R =

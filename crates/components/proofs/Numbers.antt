@@ -20,7 +20,8 @@ use Rattle.components.specs.Components.{lowest, lowestNodes, numberAmong
 use Rattle.components.specs.Promise.{Lowest, Numbers}
 use Rattle.components.proofs.Lists.{T-keep, keep-few, Ascending, keep-ascends, first-in, first-lowest}
 use Rattle.components.proofs.Ranks.{rank, rank-pos, rank-few, rank-lt, rank-at, rank-inj, at-in, rank-only}
-use Rattle.components.proofs.Joined.{T-unsafe, unsafe-lt, unsafe-ascends, component-ascends, end-unsafe, joined-trans, joined-sym, T-component, component-same}
+use Rattle.components.proofs.Joined.{T-unsafe, unsafe-lt, unsafe-ascends, component-ascends, end-unsafe, joined-trans, joined-sym, T-component}
+use Rattle.components.proofs.Joined.{component-same}
 
 module _ (S : Sizes) (marks : List ℕ) where
   -- the lowest node of a's component, and all lowest nodes
@@ -37,7 +38,8 @@ module _ (S : Sizes) (marks : List ℕ) where
   pub low-least : (a b : ℕ) → Joined S marks a b → low a ≤ b
   unfolding lowest
   low-least a b j =
-      first-lowest (component S (unsafeNodes marks) a) (component-ascends S (unsafeNodes marks) a (unsafe-ascends marks)) b (T-component S marks a b .1 j)
+      first-lowest (component S (unsafeNodes marks) a) (component-ascends S (unsafeNodes marks) a (unsafe-ascends marks)) b
+      (T-component S marks a b .1 j)
 
   pub low-same : (a b : ℕ) → Joined S marks a b → low a ≡ low b
   unfolding lowest

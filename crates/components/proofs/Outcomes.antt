@@ -40,14 +40,15 @@ use Rattle.components.proofs.Nodes.{numbers, as-defined}
 -- what is written to the front of a list, the rest of which stays
 pub front : (t old new : List ℕ) (n : ℕ) → length t ≡ n → n ≤ length old → length new ≡ length old
     → ((k : ℕ) → k < n → getD new k 0 ≡ getD t k 0) → ((k : ℕ) → n ≤ k → getD new k 0 ≡ getD old k 0) → new ≡ t ++ drop n old
-front t old new n lt fits long low high = ext-getD 0 new (t ++ drop n old) (omega (arith, length-append t (drop n old), length-drop n old)) λ k h. elim (tried (ltb k n)) [
-  | inl u ↦ let l = ltb→lt k n u in low k l ∙ sym (List·getD-append t (drop n old) 0 k (omega arith))
-  | inr u ↦
-      let l = nltb→le k n u in
-      let e : n + (k - n) ≡ k = omega arith in
-      high k l ∙ sym (subst (λ (i : ℕ). getD (t ++ drop n old) i 0 ≡ getD old k 0) (omega arith)
-      (getD-append-add t (drop n old) (k - n) 0 ∙ getD-drop n old (k - n) 0 ∙ ap (λ (i : ℕ). getD old i 0) e))
-]
+front t old new n lt fits long low high =
+    ext-getD 0 new (t ++ drop n old) (omega (arith, length-append t (drop n old), length-drop n old)) λ k h. elim (tried (ltb k n)) [
+      | inl u ↦ let l = ltb→lt k n u in low k l ∙ sym (List·getD-append t (drop n old) 0 k (omega arith))
+      | inr u ↦
+          let l = nltb→le k n u in
+          let e : n + (k - n) ≡ k = omega arith in
+          high k l ∙ sym (subst (λ (i : ℕ). getD (t ++ drop n old) i 0 ≡ getD old k 0) (omega arith)
+          (getD-append-add t (drop n old) (k - n) 0 ∙ getD-drop n old (k - n) 0 ∙ ap (λ (i : ℕ). getD old i 0) e))
+    ]
 
 module _ (S : Sizes) (cells : List ℕ) (o : ℕ) (old : List ℕ) (room : ℕ) where
   abbrev marks : List ℕ
@@ -60,7 +61,8 @@ module _ (S : Sizes) (cells : List ℕ) (o : ℕ) (old : List ℕ) (room : ℕ) 
 
   pub sized : marksAnswer S cells o 4096 ≡ Done → InRange S
   unfolding marksAnswer
-  sized e = map-granted S cells (split (checkMap S cells) (checkOrientation o) (split (checkMap S cells andThen checkOrientation o) (checkRoom (nodes S) 4096) e .0) .0) .sized
+  sized e = map-granted S cells (split (checkMap S cells) (checkOrientation o)
+      (split (checkMap S cells andThen checkOrientation o) (checkRoom (nodes S) 4096) e .0) .0) .sized
 
   -- a refusal of the marks is one of this call: their room always suffices
   refused-early : (r : Refusal) → marksAnswer S cells o 4096 ≡ Refused r → check ≡ Refused r
@@ -80,7 +82,8 @@ module _ (S : Sizes) (cells : List ℕ) (o : ℕ) (old : List ℕ) (room : ℕ) 
     rest : check ≡ checkRoom (nodes S) (length old) andThen checkRoom (howMany S marks) room
     unfolding marksAnswer componentsCheck
     rest =
-        let (a, b) = split (checkMap S cells) (checkOrientation o) (split (checkMap S cells andThen checkOrientation o) (checkRoom (nodes S) 4096) done .0) in
+        let (a, b) = split (checkMap S cells) (checkOrientation o)
+        (split (checkMap S cells andThen checkOrientation o) (checkRoom (nodes S) 4096) done .0) in
         rw (a, b)
 
     all-granted : nodes S ≤ length old → howMany S marks ≤ room → check ≡ Done
@@ -104,7 +107,9 @@ module _ (S : Sizes) (cells : List ℕ) (o : ℕ) (old : List ℕ) (room : ℕ) 
 
   module _ (done : marksAnswer S cells o 4096 ≡ Done) (g h : List ℕ) (n : ℕ) (row : List Component) (is : (j : ℕ) → getD g j 0 ≡ gridAt S marks j)
       (L : Labelled g gridSize n h row) (long : length row ≡ 1024) (few : n ≤ 1024) where
-    found : (n ≡ howMany S marks) × (numbers S (sized done) marks g (marks-length (mapOf S cells) o) is n (omega arith) h row L ≡ tableOf S marks) × (take n row ≡ recordsOf S marks)
+    found : (n ≡ howMany S marks)
+        × (numbers S (sized done) marks g (marks-length (mapOf S cells) o) is n (omega arith) h row L ≡ tableOf S marks)
+        × (take n row ≡ recordsOf S marks)
     found = as-defined S (sized done) marks g (marks-length (mapOf S cells) o) is n (omega arith) h row L (omega arith)
 
     count-is : n ≡ howMany S marks
@@ -117,7 +122,8 @@ module _ (S : Sizes) (cells : List ℕ) (o : ℕ) (old : List ℕ) (room : ℕ) 
         let e : check ≡ Done = all-granted done fits (omega (arith, found .0)) in
         record {
           answer = rw e (ap Number (found .0));
-          table = rw e (front (tableOf S marks) old new (nodes S) (ap length (sym (found .1)) ∙ length-table at-spot (nodes S)) fits (C .long) low (C .rest));
+          table = rw e (front (tableOf S marks) old new (nodes S)
+              (ap length (sym (found .1)) ∙ length-table at-spot (nodes S)) fits (C .long) low (C .rest));
           count = rw e (found .0);
           records = rw e (found .2);
           in-row = rows;
@@ -166,7 +172,8 @@ module _ (S : Sizes) (cells : List ℕ) (o : ℕ) where
 
   pub all-computed : (room : ℕ) (old new : List ℕ) (a : Answer) → marksAnswer S cells o 4096 ≡ a → (g h : List ℕ) (n : ℕ) (row : List Component)
       → Gridded S cells o a g → Labelled g gridSize n h row → length row ≡ 1024 → n ≤ 1024
-      → (r : Numbered) (k : ℕ) → Settled S a h n room old new r → k ≡ storedOf r → Computed S cells o room old new (record { answer = r; count = k; records = row })
+      → (r : Numbered) (k : ℕ) → Settled S a h n room old new r → k ≡ storedOf r
+      → Computed S cells o room old new (record { answer = r; count = k; records = row })
   all-computed room old new (Refused x) e g h n row is L long few r k T stored =
       let q : r ≡ NotNumbered x = T .answer in
       let u : new ≡ old = T .kept x refl in
@@ -189,16 +196,22 @@ module _ (S : Sizes) (cells : List ℕ) (o : ℕ) where
           let q : r ≡ Number n = T .answer ∙ ap (λ (a : Answer). numbered a n) e in
           let c : k ≡ n = stored ∙ ap storedOf q in
           let (fits, rows) = split (checkRoom (nodes S) (length old)) (checkRoom n room) e in
-          rw (q, c) (granted-computed S cells o old room done g h n row is L long few (room-granted (nodes S) (length old) fits) (room-granted n room rows) new (T .copied e))
+          rw (q, c) (granted-computed S cells o old room done g h n row is L long few (room-granted (nodes S) (length old) fits)
+          (room-granted n room rows) new (T .copied e))
 
 -- ---- with the records stored, the whole call's table and row
 
-pub whole : (S : Sizes) (cells : List ℕ) (o : ℕ) (old new : List ℕ) (row row′ : List Component) (r : Outcome) → Computed S cells o (length row) old new r
+pub whole : (S : Sizes) (cells : List ℕ) (o : ℕ) (old new : List ℕ) (row row′ : List Component) (r : Outcome)
+    → Computed S cells o (length row) old new r
     → row′ ≡ take (r .count) (r .records) ++ drop (r .count) row
     → (new ≡ componentsTable S cells o old row) × (row′ ≡ componentsRow S cells o old row)
 unfolding rowWritten
-whole S cells o old new row row′ r C e =
-    (C .table, e ∙ rw (C .records, C .count) (written (componentsCheck S cells o (length old) (length row)) (recordsOf S (marksOf (mapOf S cells) o)) (howMany S (marksOf (mapOf S cells) o))))
+whole S cells o old new row row′ r C e = (
+  C .table,
+  e ∙ rw (C .records, C .count)
+      (written (componentsCheck S cells o (length old) (length row)) (recordsOf S (marksOf (mapOf S cells) o))
+      (howMany S (marksOf (mapOf S cells) o))),
+)
   where
     written : (a : Answer) (all : List Component) (n : ℕ) → granted a all [] ++ drop (answerValue a n) row ≡ granted a (all ++ drop n row) row
     written Done all n = refl

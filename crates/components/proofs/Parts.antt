@@ -1,8 +1,8 @@
 -- The steps of the flood: a place that enters the queue, and the places around one. Assumes nothing.
-use mathlib.Core.Path.{_≡_, refl, sym, ap, _∙_, subst}
+use mathlib.Core.Path.{_≡_, refl, sym, ap, _∙_}
 use mathlib.Core.Logic.{_⊎_, inl, inr}
 use mathlib.Core.List.{List}
-use Prim.Native.Nat.{ℕ, zero, suc, _+_, _≤_, _<_}
+use Prim.Native.Nat.{ℕ, suc, _+_, _≤_, _<_}
 use native.Mathlib.Omega.{arith}
 use native.Mathlib.Numerals.{add-one}
 use native.Mathlib.Nat.{eq-or-lt-of-le, le-of-suc-le-suc}
@@ -53,7 +53,8 @@ module _ (g q : List ℕ) (tail at m : ℕ) (s : Sized g q) (l : at < gridSize) 
   in-grid : at < length g
   in-grid = omega (arith, s .grid)
 
-  part-entered : {g₀ : List ℕ} {a : ℕ} → Part g₀ a m g q tail → Linked g₀ a at → getD g₀ at 0 ≡ unseen → Part g₀ a m (set g at m) (set q tail at) (tail + 1)
+  part-entered : {g₀ : List ℕ} {a : ℕ} → Part g₀ a m g q tail → Linked g₀ a at → getD g₀ at 0 ≡ unseen
+      → Part g₀ a m (set g at m) (set q tail at) (tail + 1)
   part-entered {g₀} {a} p k u =
       record {
         kept = λ j. elim (same-or-not j at) [
@@ -61,7 +62,8 @@ module _ (g q : List ℕ) (tail at m : ℕ) (s : Sized g q) (l : at < gridSize) 
           | inr n ↦ rw (getD-set-other g at j m 0 n) (p .kept j)
         ];
         each = λ t h. elim (same-or-not t tail) [
-          | inl w ↦ let x : getD (set q tail at) t 0 ≡ at = rw w (getD-set-same q tail at 0 (omega (arith, s .queue))) in rw x (u, getD-set-same g at m 0 in-grid, k)
+          | inl w ↦ let x : getD (set q tail at) t 0 ≡ at = rw w (getD-set-same q tail at 0 (omega (arith, s .queue))) in
+              rw x (u, getD-set-same g at m 0 in-grid, k)
           | inr n ↦ rw (getD-set-other q tail t at 0 n) (older t (p .each t (lower t h n)))
         ];
         all = λ j h. elim (same-or-not j at) [

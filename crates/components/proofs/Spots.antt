@@ -1,16 +1,16 @@
 -- The nodes of a mesh and their spots in the grid: which spots are unsafe, and that spots keep the order of the nodes. Assumes nothing.
-use mathlib.Core.Path.{_≡_, refl, sym, ap, _∙_, subst}
+use mathlib.Core.Path.{_≡_, refl, sym, ap, _∙_}
 use mathlib.Core.Logic.{_⊎_, inl, inr}
 use mathlib.Core.Bool.{Bool, true, false, cond, not, _&&_}
 use mathlib.Core.List.{List}
-use Prim.Native.Nat.{ℕ, zero, suc, _+_, _-_, _*_, _/_, _%_, _≤_, _<_}
+use Prim.Native.Nat.{ℕ, _+_, _-_, _*_, _/_, _%_, _≤_, _<_}
 use native.Mathlib.Omega.{arith}
 use native.Mathlib.Nat.{mod-add-div, mod-lt, eq-or-lt-of-le}
-use lib.Dec.{T, eqb, leb, ltb, ltb→lt, nltb→le, leb→le, le→leb, nleb→lt}
-use borrow.Author.Tests.{eq-eqb, ne-eqb}
+use lib.Dec.{T, eqb, leb, leb→le, le→leb, nleb→lt}
+use borrow.Author.Tests.{ne-eqb}
 use lib.ListN.{length, getD}
-use Rattle.mesh.specs.Mesh.{InRange, Inside, inside, nodes, number, placeOf}
-use Rattle.mesh.proofs.Tests.{T-and, T-eq, T-no, tried, holds-true, cond-false}
+use Rattle.mesh.specs.Mesh.{InRange, inside, nodes, number, placeOf}
+use Rattle.mesh.proofs.Tests.{T-and, T-eq, T-no, tried, holds-true}
 use Rattle.mesh.proofs.Answers.{inside-of, inside-is}
 use Rattle.mesh.proofs.Numbers.{room, number-of, number-lt, place-in, place-of}
 use Rattle.mesh.specs.declared.Sizes.{Sizes}
@@ -80,7 +80,8 @@ module _ (S : Sizes) (r : InRange S) where
   beside-touching a b la lb =
       let i = place-in S a la in
       let j = place-in S b lb in
-      beside-touch (placeOf S a) (placeOf S b) (omega (arith, i .x-in, r .w-hi)) (omega (arith, i .y-in, r .h-hi)) (omega (arith, j .x-in, r .w-hi)) (omega (arith, j .y-in, r .h-hi))
+      beside-touch (placeOf S a) (placeOf S b) (omega (arith, i .x-in, r .w-hi)) (omega (arith, i .y-in, r .h-hi))
+      (omega (arith, j .x-in, r .w-hi)) (omega (arith, j .y-in, r .h-hi))
 
   -- ---- the grid of a mesh's mark bytes
 
@@ -92,7 +93,8 @@ module _ (S : Sizes) (r : InRange S) where
     unsafe-node k u = omega (arith, long, unsafe-lt marks k u)
 
     pub unsafe-spot : (k : ℕ) → T (unsafe marks k) → getD g (at S k) 0 ≡ unseen
-    unsafe-spot k u = of-mark k (unsafe-node k u) ∙ rw (ne-eqb (getD marks k 0) 0 (λ e. T-no (eqb (getD marks k 0) 0) .0 u (T-eq (getD marks k 0) 0 .1 e)))
+    unsafe-spot k u = of-mark k (unsafe-node k u)
+        ∙ rw (ne-eqb (getD marks k 0) 0 (λ e. T-no (eqb (getD marks k 0) 0) .0 u (T-eq (getD marks k 0) 0 .1 e)))
 
     pub safe-spot : (k : ℕ) → k < nodes S → T (not (unsafe marks k)) → getD g (at S k) 0 ≡ 0
     safe-spot k l s = of-mark k l ∙ empty (eqb (getD marks k 0) 0) s
@@ -104,7 +106,9 @@ module _ (S : Sizes) (r : InRange S) where
     -- a place of the grid is empty, or a node's spot
     of-node : (j : ℕ) → (getD g j 0 ≡ 0) ⊎ ((k : ℕ) × (k < nodes S) × (j ≡ at S k))
     of-node j = elim (tried (leb 307 j && inside S (placeAt j))) [
-      | inr t ↦ inl (is j ∙ grid-none S marks j (λ h i. T-no (leb 307 j && inside S (placeAt j)) .0 t (T-and (leb 307 j) (inside S (placeAt j)) .1 (le→leb 307 j h, holds-true (inside S (placeAt j)) .1 (inside-is S (placeAt j) i)))))
+      | inr t ↦ inl (is j ∙ grid-none S marks j
+          (λ h i. T-no (leb 307 j && inside S (placeAt j)) .0 t
+          (T-and (leb 307 j) (inside S (placeAt j)) .1 (le→leb 307 j h, holds-true (inside S (placeAt j)) .1 (inside-is S (placeAt j) i)))))
       | inl t ↦
           let (a, b) = T-and (leb 307 j) (inside S (placeAt j)) .0 t in
           let i = inside-of S (placeAt j) (holds-true (inside S (placeAt j)) .0 b) in

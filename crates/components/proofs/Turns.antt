@@ -1,7 +1,7 @@
 -- The turns of the search for the next component: what is known at place k when n components have been found. Assumes nothing.
-use mathlib.Core.Path.{_≡_, refl, sym, ap, _∙_, subst}
+use mathlib.Core.Path.{_≡_, _∙_, subst}
 use mathlib.Core.List.{List}
-use Prim.Native.Nat.{ℕ, suc, _+_, _*_, _≤_, _<_}
+use Prim.Native.Nat.{ℕ, _+_, _*_, _≤_, _<_}
 use native.Mathlib.Omega.{arith}
 use native.Mathlib.Numerals.{add-one}
 use lib.ListN.{length, getD, set, length-set}
@@ -23,7 +23,8 @@ pub record Turn (g s : List ℕ) (k n : ℕ) (h q : List ℕ) (row : List Compon
   pub few : n ≤ 1024
   pub labelled : Labelled g k n h row
 
-pub turn-none : {g steps q : List ℕ} {row : List Component} → length g ≡ gridSize → Untouched g → steps ≡ around → length q ≡ gridSize → length row ≡ 1024
+pub turn-none : {g steps q : List ℕ} {row : List Component} → length g ≡ gridSize → Untouched g → steps ≡ around
+    → length q ≡ gridSize → length row ≡ 1024
     → Turn g steps 307 0 g q row
 turn-none {g} {row = row} l un e lq lr =
     record { untouched = un; steps = e; queue = lq; room = lr; few = omega arith; labelled = label-none g row l un }
@@ -31,7 +32,14 @@ turn-none {g} {row = row} l un e lq lr =
 module _ {g steps : List ℕ} {k n : ℕ} {h q : List ℕ} {row : List Component} (T : Turn g steps k n h q row) where
   pub turn-on : (m : ℕ) → k ≤ m → ((j : ℕ) → k ≤ j → j < m → getD h j 0 ≡ unseen → ⊥) → Turn g steps m n h q row
   turn-on m l none =
-      record { untouched = T .untouched; steps = T .steps; queue = T .queue; room = T .room; few = T .few; labelled = label-on g k n h row (T .labelled) m l none }
+      record {
+        untouched = T .untouched;
+        steps = T .steps;
+        queue = T .queue;
+        room = T .room;
+        few = T .few;
+        labelled = label-on g k n h row (T .labelled) m l none;
+      }
 
   pub turn-past : (getD h k 0 ≡ unseen → ⊥) → Turn g steps (k + 1) n h q row
   turn-past none = turn-on (k + 1) (omega arith) λ j lo hi u. let e : j ≡ k = omega arith in none (rw e at u)
@@ -54,7 +62,8 @@ module _ {g steps : List ℕ} {k n : ℕ} {h q : List ℕ} {row : List Component
     few-yet = one-more g k n h row (T .labelled) (T .untouched) u (omega (arith, T .few))
 
     abbrev pub Asked : Type 0
-    Asked = Sized h q × (n + 1 < unseen) × (getD h k 0 ≡ unseen) × ((j : ℕ) → getD h j 0 ≡ unseen → Spot j) × ((j : ℕ) → getD h j 0 ≡ n + 1 → ⊥) × (steps ≡ around)
+    Asked = Sized h q × (n + 1 < unseen) × (getD h k 0 ≡ unseen) × ((j : ℕ) → getD h j 0 ≡ unseen → Spot j)
+        × ((j : ℕ) → getD h j 0 ≡ n + 1 → ⊥) × (steps ≡ around)
 
     pub flood-asks : Asked
     flood-asks = (

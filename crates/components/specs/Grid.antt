@@ -1,7 +1,7 @@
 -- The grid that the flood works on: a mesh of any size laid into rows of 17 and layers of 17 rows, 307 places in. At most 16 places of each row,
 -- 16 rows of each layer and 16 layers are the mesh's, so that a step to a touching place is a fixed distance, and where it leads off the mesh it
 -- meets an empty place. Assumes nothing.
-use mathlib.Core.Bool.{Bool, true, false, cond, _&&_}
+use mathlib.Core.Bool.{cond, _&&_}
 use mathlib.Core.List.{List, [], _∷_}
 use mathlib.Core.Path.{_≡_}
 use Prim.Native.Nat.{ℕ, _+_, _-_, _*_, _/_, _%_, _<_, _≤_}

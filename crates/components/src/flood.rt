@@ -1,40 +1,37 @@
 // One component at a time gets its number, by a queue of the places that have it.
 ghost use mathlib.Core.Path.{_≡_};
-ghost use Prim.Native.Nat.{ℕ, _+_, _<_, _≤_};
-ghost use lib.ListN.{length, getD};
+ghost use Prim.Native.Nat.{ℕ, _+_, _<_};
+ghost use lib.ListN.{getD};
 ghost use Rattle.components.specs.Grid.{gridSize, unseen, Spot, around, howOften};
 ghost use Rattle.components.specs.Flood.{Sized, Visited, Spread, Flooded};
 
 // What the grid holds at an unsafe node that has no number yet.
 pub const UNSEEN: u16 = 65535;
 
-// The steps to the eighteen touching places, each with 307 added.
-const AROUND: [usize; 18] = [
-    1,
-    17,
-    18,
-    19,
-    35,
-    289,
-    290,
-    291,
-    306,
-    308,
-    323,
-    324,
-    325,
-    579,
-    595,
-    596,
-    597,
-    613,
-];
-
-// The steps, to be lent on: a constant that is indexed is laid out anew each time.
+// The steps to the eighteen touching places, each with 307 added. They are lent on: a constant that is indexed is laid out anew each time.
 pub fn steps_around() -> [usize; 18]
     ensures { λ r. ⌜ r ≡ around ⌝ }
 {
-    AROUND
+    [
+        1, // -Y -Z
+        17, // -X -Z
+        18, // -Z
+        19, // +X -Z
+        35, // +Y -Z
+        289, // -X -Y
+        290, // -Y
+        291, // +X -Y
+        306, // -X
+        308, // +X
+        323, // -X +Y
+        324, // +Y
+        325, // +X +Y
+        579, // -Y +Z
+        595, // -X +Z
+        596, // +Z
+        597, // +X +Z
+        613, // +Y +Z
+    ]
 }
 
 // Looks at one place.

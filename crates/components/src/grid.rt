@@ -1,4 +1,5 @@
 // The mesh laid into the grid, and the numbers copied out of it, row by row.
+use crate::Row;
 use crate::flood::UNSEEN;
 use mesh::Place;
 use mesh::Sizes;
@@ -9,7 +10,7 @@ ghost use lib.ListN.{length, getD};
 ghost use Rattle.mesh.specs.Mesh.{InRange, nodes};
 ghost use Rattle.mesh.specs.Fill.{Filled};
 ghost use Rattle.components.specs.Grid.{gridSize, spot, shade, gridAt};
-ghost use Rattle.components.specs.Layout.{Laid, Copied};
+ghost use Rattle.components.specs.Layout.{RowOf, Laid, Copied};
 
 // What a mark byte is in the grid.
 fn shade(mark: u8) -> u16
@@ -18,12 +19,14 @@ fn shade(mark: u8) -> u16
     if mark == 0 { 0 } else { UNSEEN }
 }
 
-// Where the row with y and z begins in the grid.
-fn row_spot(y: usize, z: usize) -> usize
-    requires { ⌜ (y < 16) × (z < 16) ⌝ }
-    ensures { λ r. ⌜ r ≡ 307 + (17 * y + 289 * z) ⌝ }
+// Where the row with y and z begins.
+fn row_of(s: Sizes, y: usize, z: usize) -> Row
+    requires { ⌜ InRange s × (y < s .h) × (z < s .d) ⌝ }
+    ensures { λ r. ⌜ RowOf s y z (r .node) (r .spot) ⌝ }
 {
-    307 + (17 * y + 289 * z)
+    let node = s.number(Place { x: 0, y, z });
+    let spot = 307 + (17 * y + 289 * z);
+    Row { node, spot }
 }
 
 // A row of w marks that begins at node k goes into the grid at a spot.
@@ -42,8 +45,8 @@ fn lay_layer(s: Sizes, marks: &[u8], grid: &mut [u16], z: usize)
 {
     let h = s.h;
     for y in 0..h {
-        let k = s.number(Place { x: 0, y, z });
-        lay_row(marks, grid, s.w, k, row_spot(y, z));
+        let row = row_of(s, y, z);
+        lay_row(marks, grid, s.w, row.node, row.spot);
     }
 }
 
@@ -75,8 +78,8 @@ fn copy_layer(s: Sizes, grid: &[u16], table: &mut [u16], z: usize)
 {
     let h = s.h;
     for y in 0..h {
-        let k = s.number(Place { x: 0, y, z });
-        copy_row(grid, table, s.w, k, row_spot(y, z));
+        let row = row_of(s, y, z);
+        copy_row(grid, table, s.w, row.node, row.spot);
     }
 }
 

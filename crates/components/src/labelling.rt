@@ -6,8 +6,8 @@ use crate::flood::flood;
 use crate::flood::steps_around;
 use crate::recording::record_of;
 ghost use mathlib.Core.Path.{_≡_};
-ghost use Prim.Native.Nat.{ℕ, _+_, _<_, _≤_};
-ghost use lib.ListN.{length, getD};
+ghost use Prim.Native.Nat.{_+_, _<_, _≤_};
+ghost use lib.ListN.{length};
 ghost use Rattle.components.specs.Grid.{gridSize};
 ghost use Rattle.components.specs.Label.{Untouched, Within, Labelled};
 
@@ -34,7 +34,8 @@ pub fn blank_records() -> [Component; 1024]
 // Numbers the components of a grid whose unsafe places lie in the first h rows of the first d layers.
 pub fn label(grid: &mut [u16], h: usize, d: usize) -> Found
     requires { ⌜ (length (now grid) ≡ gridSize) × Untouched (now grid) × Within h d (now grid) × (d ≤ 16) × (0 < d → h ≤ 16) ⌝ }
-    ensures { λ r. ⌜ Labelled (now (grid .entry)) gridSize (r .count) (now (grid .exit)) (r .records) × (length (r .records) ≡ 1024) × (r .count ≤ 1024) ⌝ }
+    ensures { λ r. ⌜ Labelled (now (grid .entry)) gridSize (r .count) (now (grid .exit)) (r .records)
+        × (length (r .records) ≡ 1024) × (r .count ≤ 1024) ⌝ }
 {
     let steps = steps_around();
     let mut queue = blank_queue();

@@ -21,6 +21,12 @@ pub struct Component {
     pub z1: u8,
 }
 
+// Where a row of the mesh begins: its first node, and that node's place in the grid.
+pub struct Row {
+    pub node: usize,
+    pub spot: usize,
+}
+
 // How many components there are, and their records; there are never more than 1,024.
 pub struct Found {
     pub count: usize,

@@ -189,7 +189,8 @@ module _ (m : Map) (o c : ℕ) (sized : InRange (m .sizes)) (hc : c < m .sizes .
           let deep : 2 ≤ m .sizes .d = omega arith in
           let t : T (shut m o (withLeft m o (suc a) (suc b) (c - 1))) = rw (le-leb 2 (m .sizes .d) deep, lt-ltb 0 c d) at tz in
           let k = rows-layer h (suc b) c d in
-          rw (← z-at d a b la lb) (A .right (place (suc a) (suc b) (c - 1)) i (omega (arith, sized .h-lo)) ∙ bit-holds (shut m o (withLeft m o (suc a) (suc b) (c - 1))) t)
+          rw (← z-at d a b la lb) (A .right (place (suc a) (suc b) (c - 1)) i (omega (arith, sized .h-lo))
+          ∙ bit-holds (shut m o (withLeft m o (suc a) (suc b) (c - 1))) t)
     ]
 
     bare : (b a : ℕ) → a < w → b < h → Bare m o sized (place a b c)
@@ -200,7 +201,15 @@ module _ (m : Map) (o c : ℕ) (sized : InRange (m .sizes)) (hc : c < m .sizes .
         let ea : suc a - 1 ≡ a = omega arith in
         let eb : suc b - 1 ≡ b = omega arith in
         shut-row m o sized (suc a) (suc b) c (record { x-in = la; y-in = lb; z-in = hc })
-        ∙ (rw (lt-ltb 0 (suc a) (omega arith), lt-ltb 0 (suc b) (omega arith), ea, eb, bare (suc b) a (omega arith) lb, bare b (suc a) la (omega arith))
+        ∙ (rw (
+          lt-ltb 0 (suc a) (omega arith),
+          lt-ltb 0 (suc b) (omega arith),
+          ea,
+          eb,
+          bare (suc b) a (omega arith) lb,
+          bare b
+              (suc a) la (omega arith),
+        )
         (none-of (faulty m (withLeft m o (suc a) (suc b) c)) (faulty m (withLeft m o a (suc b) c)) (faulty m (withLeft m o (suc a) b c))
         (aheadZ m o (suc a) (suc b) c)
         λ tx ty tz. N (on a b) (on-lt a b la lb) (x-byte a b la lb tx) (y-byte a b la lb ty) (z-byte a b la lb ty tz)))

@@ -12,9 +12,8 @@ use Rattle.mesh.proofs.Answers.{kept}
 use Rattle.mesh.proofs.Bytes.{mark-works, mark-faulty, mark-has}
 use Rattle.mesh.specs.declared.Sizes.{Sizes}
 use Rattle.mesh.specs.declared.Place.{Place}
-use Rattle.mesh.specs.declared.Refusal.{Refusal}
 use Rattle.mesh.specs.declared.Answer.{Answer}
-use Rattle.mesh.specs.declared.Answer.the-variants.{Done, Refused}
+use Rattle.mesh.specs.declared.Answer.the-variants.{Done}
 use Rattle.marks.specs.Entry.{marksAnswer, marksWritten}
 use Rattle.marks.specs.Promise.{Allowed, marksIn, Marked}
 use Rattle.marks.proofs.Answer.{marks-granted}
@@ -49,13 +48,3 @@ marks-promise S cells o out answer new a done =
     let e : marksAnswer S cells o (length out) ≡ Done = sym (a .answered) ∙ done in
     let g = marks-granted S cells o (length out) e in
     rw (a .left, e) (written-marked S cells o out (g .orientation) (g .fits))
-
--- "Any two outcomes it allows are proved equal."
-pub marks-determined : (S : Sizes) (cells : List ℕ) (o : ℕ) (out : List ℕ) (a b : Answer) (l n : List ℕ)
-    → Allowed S cells o out a l → Allowed S cells o out b n → (a ≡ b) × (l ≡ n)
-marks-determined S cells o out a b l n x y = (x .answered ∙ sym (y .answered), x .left ∙ sym (y .left))
-
--- "No lent byte changes" on a refusal.
-pub marks-unchanged : (S : Sizes) (cells : List ℕ) (o : ℕ) (out : List ℕ) (r : Refusal) (new : List ℕ)
-    → Allowed S cells o out (Refused r) new → new ≡ out
-marks-unchanged S cells o out r new a = a .left ∙ kept _ r (marksWritten S cells o out) out (sym (a .answered))

@@ -24,8 +24,11 @@ settle-requires : tie.Need-settle-requires
 settle-requires c κs =
     let l = c .before .before .before in
     let m = l .before .before .before .before in
-    let a = m .before .before .before .before .before .args in
-    (λ done. sized (a .s) (now (a .cells)) (a .orientation) (now (a .table)) (a .room) (sym (m .grid-of .ensures .0) ∙ done), l .label .ensures .0 .size)
+    let a = m .before .before .before .before .before .args in (
+      λ done. sized (a .s) (now (a .cells)) (a .orientation) (now (a .table)) (a .room)
+          (sym (m .grid-of .ensures .0) ∙ done),
+      l .label .ensures .0 .size,
+    )
 
 returns : tie.Need-returns
 returns c =

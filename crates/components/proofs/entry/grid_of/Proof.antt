@@ -25,7 +25,8 @@ unfolding marksWritten
 front S cells o out e = rw e (take-at (marksOf (mapOf S cells) o) (drop (nodes S) out) (nodes S) (marks-length (mapOf S cells) o))
 
 -- the answer is that of the marks, for a room that suffices
-answered : (c : tie.After-marks) → let a = c .before .before .before .before .before .args in c .marks .result ≡ marksAnswer (a .s) (now (a .cells)) (a .orientation) 4096
+answered : (c : tie.After-marks) → let a = c .before .before .before .before .before .args in
+    c .marks .result ≡ marksAnswer (a .s) (now (a .cells)) (a .orientation) 4096
 answered c =
     let a = c .before .before .before .before .before .args in
     c .marks .ensures .0 ∙ ap (marksAnswer (a .s) (now (a .cells)) (a .orientation)) (c .before .before .blank-marks .ensures)
@@ -36,7 +37,8 @@ returns c =
     (answered (c .before .before .before), λ j. rw told (c .before .before .before .before .before .before .before .before .pre .1 j))
 
 -- past the refusals
-passed : (c : tie.After-enum-told) → let a = c .before .before .before .before .before .before .before .before .args in Granted (a .s) (now (a .cells)) (a .orientation) 4096
+passed : (c : tie.After-enum-told) → let a = c .before .before .before .before .before .before .before .before .args in
+    Granted (a .s) (now (a .cells)) (a .orientation) 4096
 passed c =
     let m = c .before .before .before in
     let a = m .before .before .before .before .before .args in

@@ -35,7 +35,12 @@ returns-3 c =
     let n = c .before .before in
     let a = n .before .before .before .before .before .args in
     settled-refused (a .s) (a .checked) (now (a .grid)) (a .count) (a .room) (now (a .table)) NoRoom
-    (rw (n .before .enum-told .given .1, le-leb (nodes (a .s)) (length (now (a .table))) (fits (c .before)), lt-leb (a .count) (a .room) (c .if2 .taken)))
+    (rw (
+      n .before .enum-told .given .1,
+      le-leb (nodes (a .s)) (length (now (a .table))) (fits (c .before)),
+      lt-leb (a .count)
+          (a .room) (c .if2 .taken),
+    ))
 
 copy-out-requires : tie.Need-copy-out-requires
 copy-out-requires c κs =

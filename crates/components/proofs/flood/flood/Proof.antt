@@ -1,10 +1,10 @@
 -- `flood::flood` meets its contract. The loop's invariant: the first `head` places of the queue have been spread from. Assumes nothing.
-use mathlib.Core.Path.{_≡_, refl, sym, ap, _∙_, subst}
-use Prim.Native.Nat.{ℕ, _-_, _+_, _≤_, _<_}
+use mathlib.Core.Path.{_≡_, _∙_}
+use Prim.Native.Nat.{_-_, _<_}
 use native.Mathlib.Omega.{arith}
-use lib.ListN.{length, getD}
+use lib.ListN.{getD}
 use Rattle.components.specs.Grid.{gridSize, unseen, Spot, howOften}
-use Rattle.components.specs.Flood.{Sized, Part}
+use Rattle.components.specs.Flood.{Part}
 use Rattle.components.proofs.Around.{spot-le}
 use Rattle.components.proofs.Parts.{often-le, Drained, begins, drained-more, drained-all}
 use Rattle.components.proofs.flood.flood.Statement.{statement}
@@ -49,13 +49,20 @@ loop-holds c =
 within : (c : tie.At-loop Inv-loop μ-loop) → c .loop .head < c .loop .tail → c .loop .head < gridSize
 within c h =
     let d = c .loop .inv in
-    omega (arith, d .counted, d .sized .grid, often-le (c .loop .grid) (c .before .before .before .before .before .before .before .before .before .before .before .args .number))
+    omega (
+      arith,
+      d .counted,
+      d .sized .grid,
+      often-le (c .loop .grid)
+          (c .before .before .before .before .before .before .before .before .before .before .before .args .number),
+    )
 
 -- and it is a spot
 a-spot : (c : tie.At-loop Inv-loop μ-loop) → c .loop .head < c .loop .tail → Spot (getD (c .loop .queue) (c .loop .head) 0)
 a-spot c h =
     let s = c .before .before .before .before .before .before .before .before .before .before .before in
-    s .pre .3 (getD (c .loop .queue) (c .loop .head) 0) (c .loop .inv .grows (s .args .grid .now) (begun (c .before .before .before .before .before) .0) .each (c .loop .head) h .0)
+    s .pre .3 (getD (c .loop .queue) (c .loop .head) 0)
+    (c .loop .inv .grows (s .args .grid .now) (begun (c .before .before .before .before .before) .0) .each (c .loop .head) h .0)
 
 mul-from : tie.Need-mul-from Inv-loop μ-loop
 mul-from c = omega (arith, within (c .before) (c .loop-test .taken))
@@ -92,10 +99,14 @@ loop-again c =
     (c .before .before .before .before .before .before .before .before .loop-test .taken) (v .ensures)
 
 same-length : tie.Need-same-length Inv-loop μ-loop
-same-length c = omega (arith, c .before .before .before .before .before .before .before .before .before .before .before .before .pre .0 .grid, c .before .loop .inv .sized .grid)
+same-length c =
+    let p = c .before .before .before .before .before .before .before .before .before .before .before .before .pre in
+    omega (arith, p .0 .grid, c .before .loop .inv .sized .grid)
 
 same-length-2 : tie.Need-same-length-2 Inv-loop μ-loop
-same-length-2 c = omega (arith, c .before .before .before .before .before .before .before .before .before .before .before .before .pre .0 .queue, c .before .loop .inv .sized .queue)
+same-length-2 c =
+    let p = c .before .before .before .before .before .before .before .before .before .before .before .before .pre in
+    omega (arith, p .0 .queue, c .before .loop .inv .sized .queue)
 
 returns : tie.Need-returns Inv-loop μ-loop
 returns c =

@@ -1,10 +1,10 @@
 -- `flood::spread` meets its contract. The loop's invariant: the first `o` places around are looked at. Assumes nothing.
-use mathlib.Core.Path.{_≡_, refl, sym, ap, _∙_, subst}
+use mathlib.Core.Path.{_≡_, ap, _∙_, subst}
 use mathlib.Core.List.{List}
 use Prim.Native.Nat.{ℕ, _-_, _+_, _≤_, _<_}
 use native.Mathlib.Omega.{arith}
 use lib.ListN.{length, getD}
-use Rattle.components.specs.Grid.{gridSize, unseen, Spot, around}
+use Rattle.components.specs.Grid.{gridSize, Spot, around}
 use Rattle.components.specs.Flood.{Sized, Spread}
 use Rattle.components.proofs.Around.{spot-le, around-le}
 use Rattle.components.proofs.Parts.{spread-none, spread-more, room}
@@ -41,7 +41,8 @@ led : (c : tie.After-shared-slice-known2 Inv-loop μ-loop) →
 led c =
     let s = c .before .before .before .before .before .before .before .before in
     let o = c .before .before .before .before .loop .o in
-    to (s .args .from) (getD (s .args .steps .now) o 0) o (s .pre .1) (c .before .before .before .loop-test .taken) (ap (λ (l : List ℕ). getD l o 0) (s .pre .4))
+    to (s .args .from) (getD (s .args .steps .now) o 0) o (s .pre .1) (c .before .before .before .loop-test .taken)
+    (ap (λ (l : List ℕ). getD l o 0) (s .pre .4))
 
 add-visit : tie.Need-add-visit Inv-loop μ-loop
 add-visit c = omega (arith, led c)

@@ -1,9 +1,6 @@
 -- `flood::visit` meets its contract: the test chooses between the two cases of `Visited`. Assumes nothing.
-use Prim.Native.Nat.{_<_}
 use native.Mathlib.Omega.{arith}
-use lib.ListN.{length, length-set}
 use borrow.Author.Needs.{needs}
-use Rattle.components.specs.Grid.{gridSize}
 use Rattle.components.specs.Flood.{entered, passed}
 use Rattle.components.proofs.flood.visit.Statement.{statement}
 use Rattle.components.proofs.flood.visit.Tie as tie

@@ -1,12 +1,12 @@
 -- `grid::copy_layer` meets its contract. The loop's invariant: the rows below `y` are copied. Assumes nothing.
-use mathlib.Core.Path.{_≡_, refl, sym, ap, _∙_, subst}
+use mathlib.Core.Path.{_≡_, refl, ap, _∙_, subst}
 use mathlib.Core.List.{List}
-use Prim.Native.Nat.{ℕ, _+_, _-_, _*_, _≤_, _<_}
+use Prim.Native.Nat.{ℕ, _+_, _-_, _*_, _≤_}
 use native.Mathlib.Omega.{arith}
+use borrow.Author.Needs.{needs}
 use native.Mathlib.Nat.{zero-add}
-use lib.ListN.{length, getD}
-use Rattle.mesh.proofs.Numbers.{room, digit-lt, layer-end}
-use Rattle.components.specs.Grid.{gridSize}
+use lib.ListN.{length}
+use Rattle.mesh.proofs.Numbers.{layer-end}
 use Rattle.components.specs.Layout.{Copied}
 use Rattle.components.proofs.Layouts.{row-copied}
 use Rattle.components.proofs.grid.copy_layer.Statement.{statement}
@@ -25,41 +25,24 @@ loop-holds c =
     let s = c .before .before .args in
     (omega arith, refl, λ old C. rw (zero-add (s .s .h * s .z)) C)
 
-number-requires : tie.Need-number-requires Inv-loop μ-loop
-number-requires c κs =
-    let p = c .before .before .before .before .pre in
-    (p .0, record { x-in = omega (arith, p .0 .w-lo); y-in = c .loop-test .taken; z-in = p .1 })
-
-row-spot-requires : tie.Need-row-spot-requires Inv-loop μ-loop
-row-spot-requires c κs =
-    let p = c .before .before .before .before .before .before .pre in
-    (omega (arith, p .0 .h-hi, c .before .before .loop-test .taken), omega (arith, p .0 .d-hi, p .1))
-
 copy-row-requires : tie.Need-copy-row-requires Inv-loop μ-loop
 copy-row-requires c κs =
-    let s = c .before .before .before .before .before .before .before in
-    let S = s .args .s in
-    let r = s .pre .0 in
-    let lt = c .before .before .before .loop-test .taken in
-    let l = c .before .before .before .before .loop in (
-      omega (arith, c .before .before .number .ensures .0, room (S .w) (digit-lt lt (s .pre .1)), s .pre .3, l .inv .1),
-      omega (arith, c .row-spot .ensures, s .pre .2, r .w-hi, r .h-hi, r .d-hi, s .pre .1),
-    )
+    let r = c .before .row-of .ensures in
+    let p = c .before .before .before .before .before .before .pre in
+    (omega (arith, r .in-mesh, p .3, c .before .before .before .loop .inv .1), omega (arith, r .in-grid, p .2))
 
 loop-again : tie.Need-loop-again Inv-loop μ-loop
 loop-again c =
     let v = c .before .before in
-    let d = v .before in
-    let l = d .before .before .before .before .loop in
-    let s = d .before .before .before .before .before .before .before in (
+    let d = v .before .before in
+    let l = d .before .before .loop in
+    let s = d .before .before .before .before .before in
+    let r = d .row-of .ensures in (
       omega arith,
       v .copy-row .kept .1 .0 ∙ l .inv .1,
-      λ old C. row-copied (s .args .s) (s .args .grid .now) old (v .copy-row .last .1 .0) (l .y) (s .args .z) (d .before .before .number .result) (l .table)
-          (d .before .before .before .loop-test .taken) (s .pre .1) (d .before .before .number .ensures .0) (l .inv .2 old C) (rw (d .row-spot .ensures) at (v .copy-row .ensures)),
+      λ old C. row-copied (s .args .s) (s .args .grid .now) old (v .copy-row .last .1 .0) (l .y) (s .args .z) (d .row-of .result .node) (l .table)
+          (d .before .loop-test .taken) (s .pre .1) (r .first) (l .inv .2 old C) (rw (r .placed) at (v .copy-row .ensures)),
     )
-
-same-length : tie.Need-same-length Inv-loop μ-loop
-same-length c = c .before .loop .inv .1
 
 returns : tie.Need-returns Inv-loop μ-loop
 returns c =
@@ -67,9 +50,10 @@ returns c =
     let s = c .before .before .before .before .args in
     λ old C.
     let e : l .y ≡ s .s .h = omega arith in
-    subst (λ (n : ℕ). Copied (s .s) (s .grid .now) old n (l .table)) (ap (λ (y : ℕ). s .s .w * (y + s .s .h * s .z)) e ∙ layer-end (s .s .w) (s .s .h) (s .z)) (l .inv .2 old C)
+    subst (λ (n : ℕ). Copied (s .s) (s .grid .now) old n (l .table))
+    (ap (λ (y : ℕ). s .s .w * (y + s .s .h * s .z)) e ∙ layer-end (s .s .w) (s .s .h) (s .z)) (l .inv .2 old C)
 
 pub copy-layer-spec : {M : Type 1} → statement M
 copy-layer-spec =
-    tie.close (tie.spec Inv-loop μ-loop loop-holds number-requires row-spot-requires copy-row-requires
-    (λ c. omega arith) (λ c. omega arith) loop-again same-length returns)
+    tie.close (tie.spec Inv-loop μ-loop loop-holds (λ c κs. search needs) copy-row-requires (λ c. omega arith)
+    (λ c. omega arith) loop-again (λ c. c .before .loop .inv .1) returns)

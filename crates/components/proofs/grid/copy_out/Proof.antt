@@ -1,9 +1,9 @@
 -- `grid::copy_out` meets its contract. The loop's invariant: the layers below `z` are copied. Assumes nothing.
-use mathlib.Core.Path.{_≡_, refl, sym, ap, _∙_, subst}
-use Prim.Native.Nat.{ℕ, _+_, _-_, _*_, _≤_, _<_}
+use mathlib.Core.Path.{_≡_, refl, _∙_, subst}
+use Prim.Native.Nat.{ℕ, _-_, _*_, _≤_}
 use native.Mathlib.Omega.{arith}
 use native.Mathlib.Nat.{mul-zero}
-use lib.ListN.{length, getD}
+use lib.ListN.{length}
 use Rattle.components.specs.Layout.{Copied}
 use Rattle.components.proofs.Layouts.{copied-none}
 use Rattle.components.proofs.grid.copy_out.Statement.{statement}
@@ -28,11 +28,12 @@ copy-layer-requires c κs =
 loop-again : tie.Need-loop-again Inv-loop μ-loop
 loop-again c =
     let v = c .before .before .copy-layer in
-    let l = c .before .before .before .before .before .loop in
-    (omega arith, v .kept .1 .1 .0 ∙ l .inv .1, v .ensures (c .before .before .before .before .before .before .before .before .args .table .now) (l .inv .2))
-
-same-length : tie.Need-same-length Inv-loop μ-loop
-same-length c = c .before .loop .inv .1
+    let l = c .before .before .before .before .before .loop in (
+      omega arith,
+      v .kept .1 .1 .0 ∙ l .inv .1,
+      v .ensures
+          (c .before .before .before .before .before .before .before .before .args .table .now) (l .inv .2),
+    )
 
 returns : tie.Need-returns Inv-loop μ-loop
 returns c =
@@ -43,4 +44,4 @@ returns c =
 pub copy-out-spec : {M : Type 1} → statement M
 copy-out-spec =
     tie.close (tie.spec Inv-loop μ-loop loop-holds copy-layer-requires (λ c. omega arith) (λ c. omega arith) loop-again
-    same-length returns)
+    (λ c. c .before .loop .inv .1) returns)

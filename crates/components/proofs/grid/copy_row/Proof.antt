@@ -1,8 +1,8 @@
 -- `grid::copy_row` meets its contract. The loop's invariant: the first `x` numbers are copied. Assumes nothing.
-use mathlib.Core.Path.{_≡_, refl, sym, ap, _∙_, subst}
-use Prim.Native.Nat.{ℕ, _+_, _-_, _≤_, _<_}
+use mathlib.Core.Path.{refl, subst}
+use Prim.Native.Nat.{_+_, _-_, _≤_}
 use native.Mathlib.Omega.{arith}
-use lib.ListN.{length, getD}
+use lib.ListN.{getD}
 use Rattle.mesh.specs.Fill.{Filled}
 use Rattle.mesh.proofs.Fill.{fill-none, fill-more}
 use Rattle.components.proofs.grid.copy_row.Statement.{statement}
@@ -27,12 +27,10 @@ loop-again c =
     let l = c .before .before .loop in
     let a = c .before .before .before .args in (
       omega arith,
-      fill-more (λ i. a .k + i) (λ i. getD (a .grid .now) (a .at + i) 0) (a .table .now) (l .table) (l .x) (a .k + l .x) (getD (a .grid .now) (a .at + l .x) 0) (l .inv .1)
+      fill-more (λ i. a .k + i) (λ i. getD (a .grid .now) (a .at + i) 0) (a .table .now) (l .table) (l .x) (a .k + l .x)
+          (getD (a .grid .now) (a .at + l .x) 0) (l .inv .1)
           (omega (arith, l .inv .1 .size)) (λ i h e. omega arith) refl refl,
     )
-
-same-length : tie.Need-same-length Inv-loop μ-loop
-same-length c = c .before .loop .inv .1 .size
 
 returns : tie.Need-returns Inv-loop μ-loop
 returns c =
@@ -43,5 +41,5 @@ returns c =
 pub copy-row-spec : {M : Type 1} → statement M
 copy-row-spec =
     tie.close (tie.spec Inv-loop μ-loop loop-holds (λ c. omega arith) (λ c. omega arith) (λ c. omega arith)
-    (λ c. omega arith) (λ c. omega arith) slice-write-table (λ c. omega arith) (λ c. omega arith) loop-again same-length
-    returns)
+    (λ c. omega arith) (λ c. omega arith) slice-write-table (λ c. omega arith) (λ c. omega arith) loop-again
+    (λ c. c .before .loop .inv .1 .size) returns)

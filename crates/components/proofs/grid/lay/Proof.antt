@@ -1,8 +1,7 @@
 -- `grid::lay` meets its contract. The loop's invariant: the layers below `z` are laid. Assumes nothing.
-use mathlib.Core.Path.{_≡_, refl, sym, ap, _∙_, subst}
-use Prim.Native.Nat.{ℕ, _+_, _-_, _*_, _≤_, _<_}
+use mathlib.Core.Path.{subst}
+use Prim.Native.Nat.{ℕ, _+_, _-_, _*_, _≤_}
 use native.Mathlib.Omega.{arith}
-use lib.ListN.{length, getD}
 use Rattle.components.specs.Layout.{Laid}
 use Rattle.components.proofs.Layouts.{laid-none, all-laid}
 use Rattle.components.proofs.grid.lay.Statement.{statement}

@@ -1,11 +1,8 @@
 -- `grid::lay_layer` meets its contract. The loop's invariant: the rows below `y` are laid. Assumes nothing.
-use mathlib.Core.Path.{_≡_, refl, sym, ap, _∙_, subst}
-use mathlib.Core.List.{List}
-use Prim.Native.Nat.{ℕ, _+_, _-_, _*_, _≤_, _<_}
+use mathlib.Core.Path.{subst}
+use Prim.Native.Nat.{ℕ, _+_, _-_, _*_, _≤_}
 use native.Mathlib.Omega.{arith}
-use lib.ListN.{length, getD}
-use Rattle.mesh.proofs.Numbers.{room, digit-lt}
-use Rattle.components.specs.Grid.{gridSize}
+use borrow.Author.Needs.{needs}
 use Rattle.components.specs.Layout.{Laid}
 use Rattle.components.proofs.Layouts.{row-laid, layer-laid}
 use Rattle.components.proofs.grid.lay_layer.Statement.{statement}
@@ -22,37 +19,24 @@ loop-holds c =
     let s = c .before .before in
     (omega arith, subst (λ (n : ℕ). Laid (s .args .s) (s .args .marks .now) n (s .args .grid .now)) (omega arith) (s .pre .3))
 
-number-requires : tie.Need-number-requires Inv-loop μ-loop
-number-requires c κs =
-    let p = c .before .before .before .before .pre in
-    (p .0, record { x-in = omega (arith, p .0 .w-lo); y-in = c .loop-test .taken; z-in = p .1 })
-
-row-spot-requires : tie.Need-row-spot-requires Inv-loop μ-loop
-row-spot-requires c κs =
-    let p = c .before .before .before .before .before .before .pre in
-    (omega (arith, p .0 .h-hi, c .before .before .loop-test .taken), omega (arith, p .0 .d-hi, p .1))
-
 lay-row-requires : tie.Need-lay-row-requires Inv-loop μ-loop
 lay-row-requires c κs =
-    let s = c .before .before .before .before .before .before .before in
-    let S = s .args .s in
-    let r = s .pre .0 in
-    let lt = c .before .before .before .loop-test .taken in
-    let l = c .before .before .before .before .loop in (
-      omega (arith, c .before .before .number .ensures .0, room (S .w) (digit-lt lt (s .pre .1)), s .pre .2),
-      omega (arith, c .row-spot .ensures, l .inv .1 .long, r .w-hi, r .h-hi, r .d-hi, s .pre .1),
+    let r = c .before .row-of .ensures in (
+      omega (arith, r .in-mesh, c .before .before .before .before .before .before .pre .2),
+      omega
+          (arith, r .in-grid, c .before .before .before .loop .inv .1 .long),
     )
 
 loop-again : tie.Need-loop-again Inv-loop μ-loop
 loop-again c =
     let v = c .before .before in
-    let d = v .before in
-    let l = d .before .before .before .before .loop in
-    let s = d .before .before .before .before .before .before .before in
-    let S = s .args .s in (
+    let d = v .before .before in
+    let l = d .before .before .loop in
+    let s = d .before .before .before .before .before in
+    let r = d .row-of .ensures in (
       omega arith,
-      row-laid S (s .args .marks .now) (s .pre .0) (l .grid) (l .y) (s .args .z) (d .before .before .number .result) (v .lay-row .last .1 .0)
-          (d .before .before .before .loop-test .taken) (s .pre .1) (d .before .before .number .ensures .0) (l .inv .1) (rw (d .row-spot .ensures) at (v .lay-row .ensures)),
+      row-laid (s .args .s) (s .args .marks .now) (s .pre .0) (l .grid) (l .y) (s .args .z) (d .row-of .result .node) (v .lay-row .last .1 .0)
+          (d .before .loop-test .taken) (s .pre .1) (r .first) (l .inv .1) (rw (r .placed) at (v .lay-row .ensures)),
     )
 
 same-length : tie.Need-same-length Inv-loop μ-loop
@@ -67,5 +51,5 @@ returns c =
 
 pub lay-layer-spec : {M : Type 1} → statement M
 lay-layer-spec =
-    tie.close (tie.spec Inv-loop μ-loop loop-holds number-requires row-spot-requires lay-row-requires (λ c. omega arith)
+    tie.close (tie.spec Inv-loop μ-loop loop-holds (λ c κs. search needs) lay-row-requires (λ c. omega arith)
     (λ c. omega arith) loop-again same-length returns)

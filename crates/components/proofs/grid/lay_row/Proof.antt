@@ -1,8 +1,8 @@
 -- `grid::lay_row` meets its contract. The loop's invariant: the first `x` marks are laid. Assumes nothing.
-use mathlib.Core.Path.{_≡_, refl, sym, ap, _∙_, subst}
-use Prim.Native.Nat.{ℕ, _+_, _-_, _≤_, _<_}
+use mathlib.Core.Path.{refl, subst}
+use Prim.Native.Nat.{_+_, _-_, _≤_}
 use native.Mathlib.Omega.{arith}
-use lib.ListN.{length, getD}
+use lib.ListN.{getD}
 use Rattle.mesh.specs.Fill.{Filled}
 use Rattle.mesh.proofs.Fill.{fill-none, fill-more}
 use Rattle.components.specs.Grid.{shade}
@@ -28,12 +28,10 @@ loop-again c =
     let l = c .before .before .before .loop in
     let a = c .before .before .before .before .before .before .args in (
       omega arith,
-      fill-more (λ i. a .at + i) (λ i. shade (getD (a .marks .now) (a .k + i) 0)) (a .grid .now) (l .grid) (l .x) (a .at + l .x) (c .shade .result) (l .inv .1)
+      fill-more (λ i. a .at + i) (λ i. shade (getD (a .marks .now) (a .k + i) 0)) (a .grid .now) (l .grid) (l .x) (a .at + l .x)
+          (c .shade .result) (l .inv .1)
           (omega (arith, l .inv .1 .size)) (λ i h e. omega arith) refl (c .shade .ensures),
     )
-
-same-length : tie.Need-same-length Inv-loop μ-loop
-same-length c = c .before .loop .inv .1 .size
 
 returns : tie.Need-returns Inv-loop μ-loop
 returns c =
@@ -44,4 +42,5 @@ returns c =
 pub lay-row-spec : {M : Type 1} → statement M
 lay-row-spec =
     tie.close (tie.spec Inv-loop μ-loop loop-holds (λ c. omega arith) (λ c. omega arith) (λ c κs. tt) (λ c. omega arith)
-    (λ c. omega arith) slice-write-grid (λ c. omega arith) (λ c. omega arith) loop-again same-length returns)
+    (λ c. omega arith) slice-write-grid (λ c. omega arith) (λ c. omega arith) loop-again
+    (λ c. c .before .loop .inv .1 .size) returns)

@@ -39,9 +39,6 @@ loop-again c =
           (c .mark-byte .ensures ∙ (rw (unread at))),
     )
 
-same-length : tie.Need-same-length Inv-loop μ-loop
-same-length c = c .before .loop .inv .1 .size
-
 returns : tie.Need-returns Inv-loop μ-loop
 returns c =
     let at = c .before in
@@ -52,4 +49,5 @@ returns c =
 pub join-spec : {M : Type 1} → statement M
 join-spec =
     tie.close (tie.spec Inv-loop μ-loop loop-holds (λ c. omega arith) (λ c. omega arith) (λ c. omega arith)
-    mark-byte-requires (λ c. omega arith) (λ c. omega arith) (λ c. omega arith) loop-again same-length returns)
+    mark-byte-requires (λ c. omega arith) (λ c. omega arith) (λ c. omega arith) loop-again
+    (λ c. c .before .loop .inv .1 .size) returns)

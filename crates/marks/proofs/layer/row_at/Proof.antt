@@ -24,13 +24,17 @@ add-shut-byte-2 : tie.Need-add-shut-byte-2 Inv-loop μ-loop
 add-shut-byte-2 c = omega (arith, c .before .before .before .before .before .before .pre .2 .long)
 
 slice-read-shut-byte : tie.Need-slice-read-shut-byte Inv-loop μ-loop
-slice-read-shut-byte c = omega (arith, c .before .before .before .before .before .before .before .pre .2 .long, c .before .before .before .before .loop .inv .1 .size)
+slice-read-shut-byte c =
+    let l = c .before .before .before .before in
+    omega (arith, l .before .before .before .pre .2 .long, l .loop .inv .1 .size)
 
 add-shut-byte-3 : tie.Need-add-shut-byte-3 Inv-loop μ-loop
 add-shut-byte-3 c = omega (arith, c .before .before .before .before .before .before .before .pre .3 .long)
 
 slice-read-shut-byte-2 : tie.Need-slice-read-shut-byte-2 Inv-loop μ-loop
-slice-read-shut-byte-2 c = omega (arith, c .before .before .before .before .before .before .before .before .pre .3 .long, c .before .before .before .before .before .loop .inv .1 .size)
+slice-read-shut-byte-2 c =
+    let l = c .before .before .before .before .before in
+    omega (arith, l .before .before .before .pre .3 .long, l .loop .inv .1 .size)
 
 shut-byte-requires : tie.Need-shut-byte-requires Inv-loop μ-loop
 shut-byte-requires c κs =
@@ -51,15 +55,13 @@ loop-again c =
     let l = x .before .loop-test .taken in
     let R = at .loop .inv .1 in
     let e = row-turn (now (a .cells)) (now (a .out)) (at .loop .out) (a .w) (a .k) (a .j) (a .l) (a .down) (at .loop .a) (at .loop .last)
-    (x .coordinate .result) (c .shut-byte .result) (s .pre .2) (s .pre .3) R l (x .coordinate .ensures .0) (at .loop .inv .2) (c .shut-byte .ensures) in (
+    (x .coordinate .result) (c .shut-byte .result) (s .pre .2) (s .pre .3) R l (x .coordinate .ensures .0) (at .loop .inv .2)
+    (c .shut-byte .ensures) in (
       omega arith,
       row-more (now (a .cells)) (now (a .out)) (at .loop .out) (a .w) (a .k) (a .j) (a .l) (a .down) (at .loop .a) (x .coordinate .result)
           (c .shut-byte .result) R l (x .coordinate .ensures .1) (s .pre .1) (x .coordinate .ensures .0) e,
       e ∙ ap bit (sym (before-next (rowAt (now (a .cells)) (now (a .out)) (a .w) (a .k) (a .j) (a .l) (a .down)) (at .loop .a))),
     )
-
-same-length : tie.Need-same-length Inv-loop μ-loop
-same-length c = c .before .loop .inv .1 .size
 
 returns : tie.Need-returns Inv-loop μ-loop
 returns c =
@@ -72,4 +74,4 @@ pub row-at-spec : {M : Type 1} → statement M
 row-at-spec =
     tie.close (tie.spec Inv-loop μ-loop loop-holds (λ c κs. omega arith) (λ c. omega arith) (λ c. omega arith)
     add-shut-byte-2 slice-read-shut-byte add-shut-byte-3 slice-read-shut-byte-2 shut-byte-requires (λ c. omega arith)
-    (λ c. omega arith) (λ c. omega arith) (λ c. omega arith) loop-again same-length returns)
+    (λ c. omega arith) (λ c. omega arith) (λ c. omega arith) loop-again (λ c. c .before .loop .inv .1 .size) returns)

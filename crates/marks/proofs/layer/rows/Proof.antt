@@ -54,9 +54,6 @@ loop-again c =
           (stretch-more m (a .o) _ _ (now (a .out)) (at .loop .out) (n .last .1 .1 .0) (at .loop .inv .3) (n .ensures)),
     )
 
-same-length : tie.Need-same-length Inv-loop μ-loop
-same-length c = c .before .loop .inv .2
-
 returns : tie.Need-returns Inv-loop μ-loop
 returns c =
     let at = c .before in
@@ -68,4 +65,4 @@ returns c =
 pub rows-spec : {M : Type 1} → statement M
 rows-spec =
     tie.close (tie.spec Inv-loop μ-loop loop-holds row-requires (λ c. omega arith) (λ c. omega arith) loop-again
-    same-length returns)
+    (λ c. c .before .loop .inv .2) returns)

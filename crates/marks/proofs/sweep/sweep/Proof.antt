@@ -63,7 +63,8 @@ layer-requires c κs =
     let r = s .pre in (
       record { sized = r .sized; cells-long = r .cells-long; out-long = omega (arith, r .out-long, l .lay .kept .1 .0, at .loop .inv .2) },
       c .before .loop-test .taken,
-      flat-first (mapOf (a .s) (now (a .cells))) (a .o) (r .sized) (e .edge-layers .result) (at .loop .c) (e .edge-layers .ensures) (at .loop .inv .0),
+      flat-first (mapOf (a .s) (now (a .cells))) (a .o) (r .sized) (e .edge-layers .result) (at .loop .c)
+          (e .edge-layers .ensures) (at .loop .inv .0),
       at .loop .inv .3 .swept,
     )
 
