@@ -54,7 +54,8 @@ returns c =
     let e = faulty .count-faulty .ensures ∙ faulty-counted (a .s) (now (a .cells)) (s .pre .0) in
     let one = said-as (ap (firstLine (a .s)) e) (first .first-line .ensures .0) in
     let two = said-next (omega (arith, s .pre .1, one .place, first .first-line .ensures .1)) one (second .legend .ensures .0) in (
-      said-next (omega (arith, s .pre .1, two .place, first .first-line .ensures .1, second .legend .ensures .1)) two (rest .octant-texts .ensures .0),
+      said-next (omega (arith, s .pre .1, two .place, first .first-line .ensures .1, second .legend .ensures .1)) two
+          (rest .octant-texts .ensures .0),
       omega (arith, first .first-line .ensures .1, second .legend .ensures .1, rest .octant-texts .ensures .1),
     )
 

@@ -41,7 +41,8 @@ loop-again c =
     let l = text .before .before .before .before in
     let s = l .before .before .before .before .before in
     let said = l .loop .inv .4 in
-    let all = said-next (omega (arith, s .pre .2, l .before .orientations .ensures .1, l .loop .inv .3, said .place)) said (text .octant-text .ensures .0) in (
+    let all =
+    said-next (omega (arith, s .pre .2, l .before .orientations .ensures .1, l .loop .inv .3, said .place)) said (text .octant-text .ensures .0) in (
       omega arith,
       text .octant-text .kept .1 .1 .1 .0 ∙ l .loop .inv .1,
       text .octant-text .kept .1 .1 .1 .1 .0 ∙ l .loop .inv .2,
