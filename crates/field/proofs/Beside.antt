@@ -39,7 +39,8 @@ module _ (S : Sizes) (o : ℕ) where
       let (x, x′) = bit-of (o % 2) (mod-lt o (omega arith)) in
       let (y, y′) = bit-of (o / 2 % 2) (mod-lt (o / 2) (omega arith)) in
       let (z, z′) = bit-of (o / 4 % 2) (mod-lt (o / 4) (omega arith)) in
-      let up : bitAnd (1 - o / 4 % 2) u ≡ bit (not (runsDown o Z) && counted S Z) = ap₂ bitAnd (sym z′) eu ∙ bit-and (not (runsDown o Z)) (counted S Z) in
+      let up : bitAnd (1 - o / 4 % 2) u ≡ bit (not (runsDown o Z) && counted S Z) =
+      ap₂ bitAnd (sym z′) eu ∙ bit-and (not (runsDown o Z)) (counted S Z) in
       let down : bitAnd (o / 4 % 2) v ≡ bit (runsDown o Z && counted S Z) = ap₂ bitAnd (sym z) ev ∙ bit-and (runsDown o Z) (counted S Z) in
       omega arith
 
@@ -149,5 +150,6 @@ some-six h bh =
       packed-or 6 (λ j. bitAnd (h j) 127 + 127) h low bh,
       packed-and 6 (λ j. bitOr (bitAnd (h j) 127 + 127) (h j)) (λ j. 128) high (λ j. omega arith),
     ) (packed-same 6 (λ j. tops (h j)) (λ j. 128 * bit (not (eqb (h j) 0)))
-    (λ j _. T-eq (tops (h j)) (128 * bit (not (eqb (h j) 0))) .0 (T-all 256 (λ b. eqb (tops b) (128 * bit (not (eqb b 0)))) .0 all-tops (h j) (bh j)))) in
+    (λ j _. T-eq (tops (h j)) (128 * bit (not (eqb (h j) 0))) .0
+    (T-all 256 (λ b. eqb (tops b) (128 * bit (not (eqb b 0)))) .0 all-tops (h j) (bh j)))) in
     ap (λ (n : ℕ). n / 128) (e ∙ sym (packed-mul 6 128 λ j. bit (not (eqb (h j) 0)))) ∙ omega arith

@@ -41,7 +41,8 @@ pub state-passed : (S : Sizes) (n : ℕ) → (checkState S n ≡ Done) ↔ (T (i
 unfolding checkState
 state-passed S n = simp (checkState, both, passed, T-eq) (λ x. x, λ x. x)
 
-pub numbers-passed : (S : Sizes) (n o k j w : ℕ) → (checkState S n andThen checkOrientation o andThen checkNode S k andThen checkDirection j andThen checkWord w ≡ Done)
+pub numbers-passed : (S : Sizes) (n o k j w : ℕ)
+    → (checkState S n andThen checkOrientation o andThen checkNode S k andThen checkDirection j andThen checkWord w ≡ Done)
     ↔ (((((T (inRange S) × (n ≡ stateLength S)) × (o ≤ 7)) × (k < nodes S)) × (j ≤ 5)) × T (isWord w))
 numbers-passed S n o k j w = simp (state-passed, both, passed, T-le) (λ x. x, λ x. x)
 
@@ -50,12 +51,14 @@ pub fresh-passed : (S : Sizes) (cells : List ℕ) (o n : ℕ) → (freshAnswer S
 unfolding freshAnswer
 fresh-passed S cells o n = simp (freshAnswer, state-passed, both, passed, T-le) (λ x. x, λ x. x)
 
-pub sound-passed : (S : Sizes) (o : ℕ) (s : List ℕ) → (soundAnswer S o s ≡ Done) ↔ (((T (inRange S) × (length s ≡ stateLength S)) × (o ≤ 7)) × Sound S o s)
+pub sound-passed : (S : Sizes) (o : ℕ) (s : List ℕ) → (soundAnswer S o s ≡ Done)
+    ↔ (((T (inRange S) × (length s ≡ stateLength S)) × (o ≤ 7)) × Sound S o s)
 unfolding soundAnswer
 sound-passed S o s = simp (soundAnswer, state-passed, both, passed, T-le, sound-iff) (λ x. x, λ x. x)
 
 pub hear-passed : (S : Sizes) (o k j w : ℕ) (s : List ℕ) → (hearAnswer S o k j w s ≡ Done)
-    ↔ ((((((((T (inRange S) × (length s ≡ stateLength S)) × (o ≤ 7)) × (k < nodes S)) × (j ≤ 5)) × T (isWord w)) × Sound S o s) × T (pair (mapIn S s) k j))
+    ↔ ((((((((T (inRange S) × (length s ≡ stateLength S)) × (o ≤ 7)) × (k < nodes S)) × (j ≤ 5)) × T (isWord w)) × Sound S o s)
+    × T (pair (mapIn S s) k j))
     × (w noMoreThan says S s k j))
 unfolding hearAnswer
 hear-passed S o k j w s = simp (hearAnswer, state-passed, both, passed, T-le, sound-iff, within-iff) (λ x. x, λ x. x)
@@ -101,7 +104,8 @@ itself S o k j w s t a b e = rw (a, b) (own-same, heard-same)
 
 module _ (m : Map) (o : ℕ) (fit : T (inRange (m .sizes))) (o-le : o ≤ 7) (s : List ℕ) (z : SoundOn m o s) where
   -- a word that the speaker holds is granted
-  takes : (k j w : ℕ) → k < nodes (m .sizes) → j < 6 → T (pair m k j) → T (isWord w) → w noMoreThan says (m .sizes) s k j → hearAnswer (m .sizes) o k j w s ≡ Done
+  takes : (k j w : ℕ) → k < nodes (m .sizes) → j < 6 → T (pair m k j) → T (isWord w) → w noMoreThan says (m .sizes) s k j
+      → hearAnswer (m .sizes) o k j w s ≡ Done
   takes k j w l h t v f =
       let q : T (pair (mapIn (m .sizes) s) k j) = rw (pair-in m o s z k j) t in
       hear-passed (m .sizes) o k j w s .1 ((((((((fit, z .long), o-le), l), omega arith), v), on-sound m o s z), q), f)
@@ -111,7 +115,8 @@ module _ (m : Map) (o : ℕ) (fit : T (inRange (m .sizes))) (o-le : o ≤ 7) (s 
   grants k j w l h t v f = rw (takes k j w l h t v f)
 
   -- and changes nothing where it is late
-  pub late : (k j w : ℕ) → T (pair m k j) → T (isWord w) → w noMoreThan heard s k j → (hearAnswer (m .sizes) o k j w s ≡ Done) × (hearOut (m .sizes) o k j w s ≡ s)
+  pub late : (k j w : ℕ) → T (pair m k j) → T (isWord w) → w noMoreThan heard s k j
+      → (hearAnswer (m .sizes) o k j w s ≡ Done) × (hearOut (m .sizes) o k j w s ≡ s)
   late k j w t v f =
       let r = pair-talks m k j t in
       let (word, held) = z .words k j t in

@@ -51,7 +51,8 @@ module _ (S : Sizes) (o : ℕ) (s : List ℕ) (z : Sound S o s) where
   node-same : (k : ℕ) → k < nodes S → nodeNews S s k ≡ count 6 (news m s k)
   unfolding nodeNews
   node-same k l = elim (tried (eqb (own s k) 1)) [
-    | inl t ↦ cond-true (eqb (own s k) 1) 0 (count 6 λ j. not (eqb (shows S s k j) (heard s k j))) t ∙ sym (sum-zero 6 (λ j. bit (news m s k j)) λ j h. sym
+    | inl t ↦ cond-true (eqb (own s k) 1) 0 (count 6 λ j. not (eqb (shows S s k j) (heard s k j))) t
+        ∙ sym (sum-zero 6 (λ j. bit (news m s k j)) λ j h. sym
         (no-pair (pair m k j) _ λ q. T-no (faultyNode m k) .0 (pair-talks m k j q .works-k) (rw (faulty-in S s k l) t)))
     | inr f ↦ cond-false (eqb (own s k) 1) 0 (count 6 λ j. not (eqb (shows S s k j) (heard s k j))) f ∙ sum-same 6 _ _ λ j h.
         direction-same k j l (rw (faulty-in S s k l) f) h

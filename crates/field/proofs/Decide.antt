@@ -17,7 +17,8 @@ use Rattle.mesh.specs.declared.Next.the-variants.{At, Edge}
 use Rattle.mesh.proofs.Steps.{dir-led}
 use Rattle.mesh.proofs.Tests.{T-and, T-implies, T-cond, T-all, T-eq}
 use Rattle.field.specs.State.{own, heard, mapIn, faultyNode, worksNode}
-use Rattle.field.specs.Sound.{within, _noMoreThan_, faultyHears, heardRight, workingRight, faultyRight, nodeRight, soundOn, sound, SoundOn, Sound}
+use Rattle.field.specs.Sound.{within, _noMoreThan_, faultyHears, heardRight, workingRight, faultyRight, nodeRight}
+use Rattle.field.specs.Sound.{soundOn, sound, SoundOn, Sound}
 use Rattle.field.proofs.State.{Talks, pair-talks, talks-pair, speaker-is}
 
 pub within-iff : (v w : ℕ) → T (within v w) ↔ (v noMoreThan w)
@@ -88,7 +89,7 @@ module _ (m : Map) (o : ℕ) (s : List ℕ) where
           rw (speaker-is m k j r) (at-iff k j (r .speaker) .0 (leads k j (r .speaker) (r .lt) (r .works-k) (r .there)) .1 (r .free));
     }
 
-  pub sound-on-iff : T (soundOn m o s) ↔ SoundOn m o s
+  sound-on-iff : T (soundOn m o s) ↔ SoundOn m o s
   sound-on-iff = (
     λ t. let (l, f) = all-iff .0 t in sound-of l f,
     λ z. all-iff .1 (

@@ -59,7 +59,11 @@ module _ (m : Map) (o : ℕ) (s : List ℕ) (z : SoundOn m o s) where
         | inl b ↦ inl (z .walled k j q l w e b ∙ sym (ap (readBy m bytes (p k) j) e ∙ cond-true (wall m (p k) j q) 1 (bytes q) b))
         | inr f ↦
             let t : Talks m k j = record { lt = l; works-k = w; speaker = q; there = e; free = f } in
-            inr (talks-pair m k j t, ap (readBy m bytes (p k) j) e ∙ cond-false (wall m (p k) j q) 1 (bytes q) f ∙ ap (own s) (sym (speaker-is m k j t)))
+            inr (
+              talks-pair m k j t,
+              ap (readBy m bytes (p k) j) e ∙ cond-false (wall m (p k) j q) 1 (bytes q) f
+                  ∙ ap (own s) (sym (speaker-is m k j t)),
+            )
       ]
 
   -- ---- no mark too many

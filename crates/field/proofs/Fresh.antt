@@ -38,7 +38,7 @@ module _ (m : Map) (o : ℕ) where
   abbrev byteAt : ℕ → ℕ
   byteAt i = freshByte m o (i / 7) (i % 7)
 
-  pub fresh-own : (k : ℕ) → k < nodes (m .sizes) → own s k ≡ freshOwn m o k
+  fresh-own : (k : ℕ) → k < nodes (m .sizes) → own s k ≡ freshOwn m o k
   unfolding fresh
   fresh-own k h =
       let e : 7 * k / 7 ≡ k = omega arith in

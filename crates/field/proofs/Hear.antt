@@ -25,7 +25,7 @@ use Rattle.field.proofs.Rule.{word-blocks, ruled-same, ruled-grows}
 
 -- ---- the byte with a word's marks added
 
-pub added-marks : (b w : ℕ) (a : Kind) → T (has (addMarks b w) a) ↔ (T (has b a) ⊎ T (has w a))
+added-marks : (b w : ℕ) (a : Kind) → T (has (addMarks b w) a) ↔ (T (has b a) ⊎ T (has w a))
 unfolding addMarks
 added-marks b w a = rw (has-byte (λ a. has b a || has w a) a) (T-or (has b a) (has w a))
 
@@ -59,13 +59,13 @@ module _ (S : Sizes) (o : ℕ) (s : List ℕ) (l j w : ℕ) (long : length s ≡
       getD-set-other (added l j w s) (7 * l) (7 * l + 1 + j) _ 0 (apart l l j j-lt)
       ∙ getD-set-same s (7 * l + 1 + j) (addMarks (heard s l j) w) 0 (omega arith)
 
-  pub heard-old : (k i : ℕ) → i < 6 → ((k ≡ l) × (i ≡ j)) ⊎ (heard t k i ≡ heard s k i)
+  heard-old : (k i : ℕ) → i < 6 → ((k ≡ l) × (i ≡ j)) ⊎ (heard t k i ≡ heard s k i)
   heard-old k i h = elim (ℕ-discrete (7 * k + 1 + i) (7 * l + 1 + j)) [
     | yes e ↦ inl (one-place k l i j h j-lt e)
     | no n ↦ inr (others-kept S o s l j w (7 * k + 1 + i) (apart k l i h) n)
   ]
 
-  pub own-old : (k : ℕ) → k ≢ l → own t k ≡ own s k
+  own-old : (k : ℕ) → k ≢ l → own t k ≡ own s k
   own-old k n = others-kept S o s l j w (7 * k) (omega arith) (omega arith)
 
   pub own-new : own t l ≡ ruleByte S o (heard t l)
@@ -129,7 +129,8 @@ module _ (m : Map) (o : ℕ) (s : List ℕ) (z : SoundOn m o s) (l j w : ℕ) (p
     );
     ruled = λ k h v. elim (ℕ-discrete k l) [
       | yes e ↦ rw e new
-      | no n ↦ old k n ∙ z .ruled k h v ∙ ruled-same S o (heard s k) (heard u k) (λ i q. elim (cases k i q) [ inl e ↦ absurd (n (e .0)) | inr e ↦ sym e ])
+      | no n ↦ old k n ∙ z .ruled k h v ∙ ruled-same S o (heard s k) (heard u k)
+          (λ i q. elim (cases k i q) [ inl e ↦ absurd (n (e .0)) | inr e ↦ sym e ])
     ];
     edge = λ k i h v q e. kept k i q (λ t. pair-edge m k i t e) ∙ z .edge k i h v q e;
     walled = λ k i q h v e b. kept k i (dir-led S (placeOf S k) q i e) (λ t. pair-wall m k i q t e b) ∙ z .walled k i q h v e b;
@@ -154,7 +155,8 @@ added-none b w v f = word-same (addMarks b w) b (added-word b w) v λ a. bool-ex
     (λ t. elim (added-marks b w a .0 t) [ inl x ↦ x | inr x ↦ f a x ])
     (λ t. added-marks b w a .1 (inl t))
 
-pub nothing-new : (S : Sizes) (o : ℕ) (s : List ℕ) (k j w : ℕ) → T (isWord (heard s k j)) → own s k ≡ ruleByte S o (heard s k) → w noMoreThan heard s k j
+pub nothing-new : (S : Sizes) (o : ℕ) (s : List ℕ) (k j w : ℕ) → T (isWord (heard s k j)) → own s k ≡ ruleByte S o (heard s k)
+    → w noMoreThan heard s k j
     → changed S o k j w s ≡ s
 unfolding changed ruledAt added
 nothing-new S o s k j w v e f =

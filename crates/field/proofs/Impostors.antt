@@ -122,7 +122,8 @@ module _ (answer : Sizes → List ℕ → ℕ → List ℕ → Answer) (out : Si
       omega arith
 
   -- one whose fresh state already holds every mark. "Fresh nodes know only failed neighbours" (`near`): a mark that it holds is one that they give;
-  pub holds-near : (m : Map) (o : ℕ) (old : List ℕ) → freshAnswer (m .sizes) (m .cells) o (length old) ≡ Done → (k : ℕ) → k < nodes (m .sizes) → T (worksNode m k)
+  pub holds-near : (m : Map) (o : ℕ) (old : List ℕ) → freshAnswer (m .sizes) (m .cells) o (length old) ≡ Done → (k : ℕ) → k < nodes (m .sizes)
+      → T (worksNode m k)
       → own (out (m .sizes) (m .cells) o old) k ≡ markAt m o (placeOf (m .sizes) k)
       → markAt m o (placeOf (m .sizes) k) ≡ byteOf λ a. stuckWithin 1 m (heading o a) (placeOf (m .sizes) k)
   holds-near m o old g k l w e =

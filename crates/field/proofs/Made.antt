@@ -33,7 +33,8 @@ use Rattle.field.proofs.Taken.{heard-byte}
 pub stored-two : (s : List ℕ) (k j : ℕ) {v w x y : ℕ} → j < 5 → 7 * k + 7 ≤ length s → x ≡ v → y ≡ w
     → Stored s (set (set s (7 * k + 1 + j) x) (7 * k + 1 + (j + 1)) y) k j v w
 stored-two s k j {x = x} {y = y} h l e f = record {
-  up = getD-set-other (set s (7 * k + 1 + j) x) (7 * k + 1 + (j + 1)) (7 * k + 1 + j) y 0 (omega arith) ∙ getD-set-same s (7 * k + 1 + j) x 0 (omega arith) ∙ e;
+  up = getD-set-other (set s (7 * k + 1 + j) x) (7 * k + 1 + (j + 1)) (7 * k + 1 + j) y 0 (omega arith)
+      ∙ getD-set-same s (7 * k + 1 + j) x 0 (omega arith) ∙ e;
   down = getD-set-same (set s (7 * k + 1 + j) x) (7 * k + 1 + (j + 1)) y 0 (simp length-set (omega arith)) ∙ f;
   kept = λ i p q. getD-set-other (set s (7 * k + 1 + j) x) (7 * k + 1 + (j + 1)) i y 0 q ∙ getD-set-other s (7 * k + 1 + j) i x 0 p;
 }
@@ -112,8 +113,10 @@ module _ (S : Sizes) (cells : List ℕ) (o : ℕ) (p : Place) (i : Inside S p) (
         rw q (go a down)
       where
         go : (a : Axis) (down : Bool) → heard v k (along a down) ≡ freshHeard n k (along a down)
-        go X false = z .kept (7 * k + 1 + 0) (omega arith) (omega arith) ∙ y .kept (7 * k + 1 + 0) (omega arith) (omega arith) ∙ x .up ∙ sym (fresh-up S cells p i X k e)
-        go X true = z .kept (7 * k + 1 + 1) (omega arith) (omega arith) ∙ y .kept (7 * k + 1 + 1) (omega arith) (omega arith) ∙ x .down ∙ sym (fresh-down S cells p i X k e)
+        go X false = z .kept (7 * k + 1 + 0) (omega arith) (omega arith) ∙ y .kept (7 * k + 1 + 0) (omega arith) (omega arith) ∙ x .up
+            ∙ sym (fresh-up S cells p i X k e)
+        go X true = z .kept (7 * k + 1 + 1) (omega arith) (omega arith) ∙ y .kept (7 * k + 1 + 1) (omega arith) (omega arith) ∙ x .down
+            ∙ sym (fresh-down S cells p i X k e)
         go Y false = z .kept (7 * k + 1 + 2) (omega arith) (omega arith) ∙ y .up ∙ sym (fresh-up S cells p i Y k e)
         go Y true = z .kept (7 * k + 1 + 3) (omega arith) (omega arith) ∙ y .down ∙ sym (fresh-down S cells p i Y k e)
         go Z false = z .up ∙ sym (fresh-up S cells p i Z k e)
@@ -132,7 +135,8 @@ module _ (S : Sizes) (cells : List ℕ) (o : ℕ) (p : Place) (i : Inside S p) (
             rw (axes-hear j h, ← fresh-heard n o k j l h) (heard-byte n o (fresh n o) (fresh-sound n o) k j l w h) in
             rw r (quick-is S o (heard v k) good ∙ ruled-same S o (heard v k) (freshHeard n k) axes-hear)
 
-    pub node-done : Fresh n o k s → k < nodes S → length v ≡ length s → (b : ℕ) → b ≡ cond f 1 (quickRule S o (heard v k)) → Fresh n o (k + 1) (set v (7 * k) b)
+    pub node-done : Fresh n o k s → k < nodes S → length v ≡ length s → (b : ℕ) → b ≡ cond f 1 (quickRule S o (heard v k))
+        → Fresh n o (k + 1) (set v (7 * k) b)
     node-done F l g b q = record {
       long = length-set v (7 * k) b ∙ g ∙ F .long;
       owns = below-more (λ j. own (set v (7 * k) b) j ≡ freshOwn n o j) k

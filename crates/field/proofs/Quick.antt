@@ -53,6 +53,7 @@ all-axes p = bool-ext (all 6 p) ((p 0 && p 1) && (p 2 && p 3) && (p 4 && p 5))
 -- ---- the rule
 
 -- X and Y always count
-pub rule-axes : (S : Sizes) → InRange S → (o : ℕ) (b : ℕ → Bool) → rule S o b ≡ b (ahead o X) && b (ahead o Y) && implies (counted S Z) (b (ahead o Z))
+pub rule-axes : (S : Sizes) → InRange S → (o : ℕ) (b : ℕ → Bool) → rule S o b
+    ≡ b (ahead o X) && b (ahead o Y) && implies (counted S Z) (b (ahead o Z))
 unfolding rule
 rule-axes S r o b = rw (le-leb 2 (S .w) (r .w-lo), le-leb 2 (S .h) (r .h-lo))

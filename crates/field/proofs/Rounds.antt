@@ -1,4 +1,5 @@
--- 2 × W + 1 full rounds settle the nodes: a round that adds no mark leaves no word unheard, and there are at most 2 × W marks to add. Assumes nothing.
+-- 2 × W + 1 full rounds settle the nodes: a round that adds no mark leaves no word unheard, and there are at most 2 × W marks to add. Assumes
+-- nothing.
 use mathlib.Core.Path.{_≡_, refl}
 use mathlib.Core.Logic.{_⊎_, inl, inr}
 use mathlib.Core.Bool.{Bool, true, false, not, _&&_}

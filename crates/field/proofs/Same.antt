@@ -49,11 +49,11 @@ module _ (S : Sizes) (c d : List ℕ) (e : Alike S c d) where
   pub pair-same : (k j : ℕ) → pair (mapOf S c) k j ≡ pair (mapOf S d) k j
   pair-same k j = bool-ext (pair (mapOf S c) k j) (pair (mapOf S d) k j) (pair-to S c d e k j) (pair-to S d c back k j)
 
-  pub outstanding-same : (s : List ℕ) → outstandingOn (mapOf S c) s ≡ outstandingOn (mapOf S d) s
+  outstanding-same : (s : List ℕ) → outstandingOn (mapOf S c) s ≡ outstandingOn (mapOf S d) s
   unfolding outstandingOn
   outstanding-same s = ap (λ (t : ℕ → ℕ → Bool). sum (nodes S) λ k. count 6 λ j. t k j && differs S s k j) (fun-ext λ k. fun-ext (pair-same k))
 
-  pub sound-same : (o : ℕ) (s : List ℕ) → SoundOn (mapOf S c) o s → SoundOn (mapOf S d) o s
+  sound-same : (o : ℕ) (s : List ℕ) → SoundOn (mapOf S c) o s → SoundOn (mapOf S d) o s
   unfolding faultyHears
   sound-same o s z = record {
     long = z .long;

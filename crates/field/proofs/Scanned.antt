@@ -61,7 +61,8 @@ fits-word n b w = bool-ext (fits n b) (isWord b && within b n)
     (λ t. T-implies (isWord b && within b n) (fits n b) .0 (at (word-low (T-and (isWord b) (within b n) .0 t .0)) .1) t)
   where
     at : b < 7 → T (implies (fits n b) (isWord b && within b n)) × T (implies (isWord b && within b n) (fits n b))
-    at l = T-and (implies (fits n b) (isWord b && within b n)) (implies (isWord b && within b n) (fits n b)) .0 (T-all 7 (alike n) .0 (all-alike n w) b l)
+    at l = T-and (implies (fits n b) (isWord b && within b n)) (implies (isWord b && within b n) (fits n b)) .0
+        (T-all 7 (alike n) .0 (all-alike n w) b l)
 
     word-low : T (isWord b) → b < 7
     word-low = word-cases (λ b. b < 7) (omega arith) (omega arith) (omega arith) (omega arith) b
@@ -80,11 +81,13 @@ word-heard b w = T-or (eqb b 8) (eqb b 1 || isWord b) .1 (inr (T-or (eqb b 1) (i
 
 hinders-useless : (b : ℕ) → T (isHeard b) → hinders 2 b ≡ byteBlocks b useless
 unfolding hinders byteBlocks has
-hinders-useless = heard-cases (λ b. hinders 2 b ≡ byteBlocks b useless) refl refl (word-cases (λ b. hinders 2 b ≡ byteBlocks b useless) refl refl refl refl)
+hinders-useless = heard-cases (λ b. hinders 2 b ≡ byteBlocks b useless) refl refl
+    (word-cases (λ b. hinders 2 b ≡ byteBlocks b useless) refl refl refl refl)
 
 hinders-reach : (b : ℕ) → T (isHeard b) → hinders 4 b ≡ byteBlocks b cantReach
 unfolding hinders byteBlocks has
-hinders-reach = heard-cases (λ b. hinders 4 b ≡ byteBlocks b cantReach) refl refl (word-cases (λ b. hinders 4 b ≡ byteBlocks b cantReach) refl refl refl refl)
+hinders-reach = heard-cases (λ b. hinders 4 b ≡ byteBlocks b cantReach) refl refl
+    (word-cases (λ b. hinders 4 b ≡ byteBlocks b cantReach) refl refl refl refl)
 
 -- the quick rule is the rule on such bytes, and gives a word on any
 pub quick-is : (S : Sizes) (o : ℕ) (h : ℕ → ℕ) → ((j : ℕ) → j < 6 → T (isHeard (h j))) → quickRule S o h ≡ ruleByte S o h
@@ -180,7 +183,8 @@ module _ (S : Sizes) (o : ℕ) (s : List ℕ) where
         go Edge e = tt
         go (At q) e =
             let i = inside j q e in
-            rw (read-at S s (placeOf S k) j q i) (T-or (eqb (own s (number S q)) 8) (isOwn (own s (number S q))) .1 (inr (owns (number S q) (number-lt S q i))))
+            rw (read-at S s (placeOf S k) j q i) (T-or (eqb (own s (number S q)) 8) (isOwn (own s (number S q))) .1
+            (inr (owns (number S q) (number-lt S q i))))
 
     told-same : all 6 (λ j. fits (shows S s k j) (heard s k j)) ≡ all 6 (λ j. heardRight m s k j (to k j))
     told-same = all-same 6 (λ j. fits (shows S s k j) (heard s k j)) (λ j. heardRight m s k j (to k j)) λ j h. side-same j

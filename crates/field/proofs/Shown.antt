@@ -36,7 +36,8 @@ module _ (S : Sizes) (s : List ℕ) where
   pub read-at : (p : Place) (j : ℕ) (q : Place) → Inside S q → readBy (mapIn S s) bytes p j (At q) ≡ own s (number S q)
   read-at p j q i = rw (wall-in S s p j q i) (one-itself (bytes q))
 
-  read-cond : (p : Place) (j : ℕ) (t : Bool) (q : Place) → (T t → Inside S q) → readBy (mapIn S s) bytes p j (cond t (At q) Edge) ≡ cond t (own s (number S q)) 8
+  read-cond : (p : Place) (j : ℕ) (t : Bool) (q : Place) → (T t → Inside S q) → readBy (mapIn S s) bytes p j (cond t (At q) Edge)
+      ≡ cond t (own s (number S q)) 8
   read-cond p j true q i = read-at p j q (i tt)
   read-cond p j false q i = refl
 
@@ -49,7 +50,8 @@ module _ (S : Sizes) (s : List ℕ) where
     up-at a =
         shows-at a false
         ∙ ap (readBy (mapIn S s) bytes p (along a false)) (next-along S p i a false)
-        ∙ read-cond p (along a false) (ltb (on p a + 1) (span S a)) (put a p (on p a + 1)) (λ t. put-in S p i a (on p a + 1) (ltb→lt (on p a + 1) (span S a) t))
+        ∙ read-cond p (along a false) (ltb (on p a + 1) (span S a)) (put a p (on p a + 1))
+        (λ t. put-in S p i a (on p a + 1) (ltb→lt (on p a + 1) (span S a) t))
         ∙ ap (λ (n : ℕ). cond (ltb (on p a + 1) (span S a)) (own s n) 8) (up-is S p i a)
 
     down-at : (a : Axis) → shows S s (number S p) (along a true) ≡ shownDown s (number S p) (on p a) (stride S a)

@@ -28,13 +28,13 @@ use Rattle.field.specs.State.{heard, mapIn, worksNode, pair, says}
 use Rattle.field.specs.Sound.{within, sound, SoundOn, Sound}
 use Rattle.field.specs.Hear.{addMarks, added, ruledAt, changed}
 use Rattle.field.specs.Scan.{Ready, isOwn, isHeard, fits, quickRule}
-use Rattle.field.specs.Entries.{checkState, checkWord, soundAnswer, hearAnswer}
+use Rattle.field.specs.Entries.{checkState, checkWord, hearAnswer}
 use Rattle.field.proofs.Decide.{sound-iff}
 use Rattle.field.proofs.State.{pair-talks, talks-pair, speaker-lt, speaker-works}
 use Rattle.field.proofs.Same.{works-word}
 use Rattle.field.proofs.Hear.{added-word}
 use Rattle.field.proofs.Scanned.{fits-word, word-heard, quick-is}
-use Rattle.field.proofs.Calls.{state-passed, numbers-passed, sound-passed, hear-passed}
+use Rattle.field.proofs.Calls.{state-passed, numbers-passed, hear-passed}
 
 -- ---- the checks
 
@@ -49,9 +49,6 @@ question-ready S s o e =
 pub state-sized : (S : Sizes) (n : ℕ) → checkState S n ≡ Done → InRange S
 state-sized S n e = sizes-of S (holds-true _ .0 (state-passed S n .0 e .0))
 
-pub sound-ready : (S : Sizes) (o : ℕ) (s : List ℕ) → soundAnswer S o s ≡ Done → Ready S s
-sound-ready S o s e = let (((t, l), _), _) = sound-passed S o s .0 e in record { sized = sizes-of S (holds-true _ .0 t); long = l }
-
 -- the numbers of a call of hear are as they should be
 pub record Numbers (S : Sizes) (s : List ℕ) (o k j w : ℕ) : Type 0 where
   pub whole : Ready S s
@@ -61,7 +58,8 @@ pub record Numbers (S : Sizes) (s : List ℕ) (o k j w : ℕ) : Type 0 where
   pub word : T (isWord w)
 
 pub numbers : (S : Sizes) (s : List ℕ) (o k j w : ℕ)
-    → checkState S (length s) andThen checkOrientation o andThen checkNode S k andThen checkDirection j andThen checkWord w ≡ Done → Numbers S s o k j w
+    → checkState S (length s) andThen checkOrientation o andThen checkNode S k andThen checkDirection j andThen checkWord w ≡ Done
+    → Numbers S s o k j w
 numbers S s o k j w e =
     let (((((t, l), ho), hk), hj), hw) = numbers-passed S (length s) o k j w .0 e in
     record { whole = record { sized = sizes-of S (holds-true _ .0 t); long = l }; turned = ho; node = hk; direction = omega arith; word = hw }
@@ -70,7 +68,8 @@ pub word-low : (w : ℕ) → T (isWord w) → w < 7
 word-low = word-cases (λ w. w < 7) (omega arith) (omega arith) (omega arith) (omega arith)
 
 -- "the word holds a mark that the speaker lacks now", as the code tests it
-pub held-is : (S : Sizes) (o : ℕ) (s : List ℕ) → Sound S o s → (k j w : ℕ) → T (pair (mapIn S s) k j) → T (isWord w) → fits (says S s k j) w ≡ within w (says S s k j)
+held-is : (S : Sizes) (o : ℕ) (s : List ℕ) → Sound S o s → (k j w : ℕ) → T (pair (mapIn S s) k j) → T (isWord w) → fits (says S s k j) w
+    ≡ within w (says S s k j)
 held-is S o s z k j w t v =
     let r = pair-talks (mapIn S s) k j t in
     let n = works-word (mapIn S s) o s z (neighbour S k j) (speaker-lt (mapIn S s) k j r) (speaker-works (mapIn S s) k j r) in
@@ -107,7 +106,8 @@ or-marks b w s t = word-cases (λ b. bitOr b w ≡ addMarks b w)
     b s
 
 -- a working node of a sound state has heard 8, 1 or words
-pub heard-byte : (m : Map) (o : ℕ) (s : List ℕ) → SoundOn m o s → (k j : ℕ) → k < nodes (m .sizes) → T (worksNode m k) → j < 6 → T (isHeard (heard s k j))
+pub heard-byte : (m : Map) (o : ℕ) (s : List ℕ) → SoundOn m o s → (k j : ℕ) → k < nodes (m .sizes) → T (worksNode m k) → j < 6
+    → T (isHeard (heard s k j))
 unfolding isHeard isOwn isWord
 heard-byte m o s z k j l w h = go (next (m .sizes) (placeOf (m .sizes) k) j) refl
   where
@@ -137,7 +137,11 @@ module _ (S : Sizes) (o k j w : ℕ) (s : List ℕ) (e : hearAnswer S o k j w s 
   heard-then : (i : ℕ) → i < 6 → T (isHeard (heard (added k j w s) k i))
   unfolding added
   heard-then i h = elim (ℕ-discrete i j) [
-    | yes q ↦ rw (q, getD-set-same s (7 * k + 1 + j) (addMarks (heard s k j) w) 0 (omega (arith, hear-numbers .node, hear-numbers .direction, hear-numbers .whole .long)))
+    | yes q ↦ rw (
+      q,
+      getD-set-same s (7 * k + 1 + j) (addMarks (heard s k j) w) 0
+          (omega (arith, hear-numbers .node, hear-numbers .direction, hear-numbers .whole .long)),
+    )
         (word-heard (addMarks (heard s k j) w) (added-word (heard s k j) w))
     | no n ↦ rw (getD-set-other s (7 * k + 1 + j) (7 * k + 1 + i) (addMarks (heard s k j) w) 0 (omega arith))
         (heard-byte (mapIn S s) o s sound-there k i (hear-numbers .node) (pair-talks (mapIn S s) k j paired .works-k) h)

@@ -26,7 +26,8 @@ module _ (S : Sizes) (o : ℕ) (s : List ℕ) (k : ℕ) (told : ℕ) (et : told 
   unfolding faultyHears
   faulty-byte m p j = omega arith
 
-  pub faulty-test : (v : ℕ) → ((m : Map) (p : Place) (j : ℕ) → v ≡ faultyHears m p j) → own s k ≡ 1 → eqb (bitXor told (v * ones)) 0 ≡ nodeTest S o s k
+  pub faulty-test : (v : ℕ) → ((m : Map) (p : Place) (j : ℕ) → v ≡ faultyHears m p j) → own s k ≡ 1 → eqb (bitXor told (v * ones)) 0
+      ≡ nodeTest S o s k
   unfolding nodeTest
   faulty-test v f h =
       let low : v < 256 = rw (f (mapIn S s) (placeOf S k) 0) (faulty-byte (mapIn S s) (placeOf S k) 0) in
@@ -67,7 +68,8 @@ module _ (S : Sizes) (o : ℕ) (s : List ℕ) (k : ℕ) (told : ℕ) (et : told 
     pub differs-byte : Bytes λ j. bitXor (shows S s k j) (heard s k j)
     differs-byte j = xor-lt 8 (shows S s k j) (heard s k j) (bs j) (bt j)
 
-    pub working-news : (n : ℕ) → n ≡ six (λ j. bit (not (eqb (bitXor (shows S s k j) (heard s k j)) 0))) → (own s k ≡ 1 → ⊥) → n isBut255 nodeNews S s k
+    pub working-news : (n : ℕ) → n ≡ six (λ j. bit (not (eqb (bitXor (shows S s k j) (heard s k j)) 0))) → (own s k ≡ 1 → ⊥)
+        → n isBut255 nodeNews S s k
     unfolding nodeNews
     working-news n e h =
         let (m, q) = packed-sum 6 λ j. bit (not (eqb (bitXor (shows S s k j) (heard s k j)) 0)) in

@@ -76,7 +76,8 @@ fn put_node(s: Sizes, cells: &[u8], o: usize, state: &mut [u8], p: Place)
 
 // A row of nodes.
 fn put_row(s: Sizes, cells: &[u8], o: usize, state: &mut [u8], row: usize)
-    requires { ⌜ InRange s × (o ≤ 7) × (row < s .h * s .d) × (length (now cells) ≡ nodes s) × Fresh (mapOf s (now cells)) o (s .w * row) (now state) ⌝ }
+    requires { ⌜ InRange s × (o ≤ 7) × (row < s .h * s .d) × (length (now cells) ≡ nodes s)
+        × Fresh (mapOf s (now cells)) o (s .w * row) (now state) ⌝ }
     ensures { λ _. ⌜ Fresh (mapOf s (now (cells .entry))) o (s .w * (row + 1)) (now (state .exit)) ⌝ }
 {
     let y = row % s.h;

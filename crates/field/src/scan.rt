@@ -18,7 +18,8 @@ ghost use Rattle.mesh.specs.Answers.{numbered, unless};
 ghost use Rattle.mesh.specs.declared.Refusal.the-variants.{Unsound};
 ghost use Rattle.field.specs.Sound.{sound};
 ghost use Rattle.field.specs.Hear.{outstanding};
-ghost use Rattle.field.specs.Scan.{Ready, Held, Near, Bytes, six, ones, shownUp, shownDown, shows, nodeTest, rowTest, nodeNews, rowNews, _isBut255_};
+ghost use Rattle.field.specs.Scan.{Ready, Held, Near, Bytes, six, ones, _isBut255_};
+ghost use Rattle.field.specs.Scan.{shownUp, shownDown, shows, nodeTest, rowTest, nodeNews, rowNews};
 
 // What is seen at a node, or in a row: 0 if all is right, and the words outstanding.
 pub struct Seen {

@@ -20,7 +20,8 @@ module _ (S : Sizes) (o : ℕ) where
   unfolding visits
   no-visit first stride n = refl
 
-  pub visit-more : (first stride : ℕ) (n : Net) (i : ℕ) → visits S o first stride n (i + 1) ≡ visit S o (visits S o first stride n i) (met S first stride i)
+  pub visit-more : (first stride : ℕ) (n : Net) (i : ℕ) → visits S o first stride n (i + 1)
+      ≡ visit S o (visits S o first stride n i) (met S first stride i)
   unfolding visits
   visit-more first stride n i = rw add-one
 

@@ -32,7 +32,7 @@ module _ (S : Sizes) (o : ℕ) where
   way-room n g l twice = g .room
   way-room n g l once = g .room
 
-  pub visit-going : (n : Net) → Going S o n → (l : ℕ) → Going S o (visit S o n l)
+  visit-going : (n : Net) → Going S o n → (l : ℕ) → Going S o (visit S o n l)
   unfolding visit
   visit-going n g l =
       let f = fateOf (chosen 8 (following (n .drawn))) in

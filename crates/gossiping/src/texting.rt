@@ -3,13 +3,13 @@ use crate::figuring::working;
 use crate::lines::legend;
 use crate::lines::settled_line;
 use crate::lines::start_line;
+use crate::rounds::links;
 use crate::talking::talk;
 use field::entry::fresh;
 use mapfile::MapRead;
 use mapfile::reader::read_map;
 use mesh::Sizes;
 use report::counting::count_faulty;
-use report::figuring::blank_cells;
 use report::lines::first_line;
 use report::reporting::orientations;
 use report::reporting::report;
@@ -21,16 +21,13 @@ ghost use Rattle.mesh.specs.Answers.{checkMap};
 ghost use Rattle.mesh.specs.declared.Answer.the-variants.{Done};
 ghost use Rattle.text.specs.Text.{Said};
 ghost use Rattle.report.specs.Report.{orientations};
-ghost use Rattle.gossiping.specs.Links.{links};
 ghost use Rattle.gossiping.specs.Text.{octantText, octantTexts, mapText, gossip};
 
-// Nothing is on the way.
-fn clear(way: &mut [u8])
-    ensures { λ _. ⌜ now (way .exit) ≡ replicate (length (now (way .entry))) 0 ⌝ }
+// Room for a word on each link of the largest mesh: nothing is on the way.
+fn blank_way() -> [u8; 24576]
+    ensures { λ r. ⌜ r ≡ replicate 24576 0 ⌝ }
 {
-    for link in 0..way.len() {
-        way[link] = 0;
-    }
+    [0; 24576]
 }
 
 // The text of an orientation.
@@ -39,54 +36,32 @@ fn octant_text(
     cells: &[u8],
     o: usize,
     state: &mut [u8],
-    way: &mut [u8],
     out: &mut [u8],
     at: usize,
 ) -> usize
-    requires { ⌜ (checkMap s (now cells) ≡ Done) × (o ≤ 7) × (length (now state) ≡ stateLength s) × (length (now way) ≡ links s)
-        × (at + 7552 ≤ length (now out)) ⌝ }
+    requires { ⌜ (checkMap s (now cells) ≡ Done) × (o ≤ 7) × (length (now state) ≡ stateLength s) × (at + 7552 ≤ length (now out)) ⌝ }
     ensures { λ r. ⌜ Said (now (out .entry)) at (octantText (mapOf s (now (cells .entry))) o) (now (out .exit)) r × (r ≤ at + 7552) ⌝ }
 {
     fresh(s, cells, o, state);
-    clear(way);
+    let mut way = blank_way();
+    let n = links(s);
     let w = working(s, cells);
     let begin = start_line(o, w, out, at);
-    let e = talk(s, cells, o, state, way, out, begin);
+    let e = talk(s, cells, o, state, &mut way[..n], out, begin);
     settled_line(e.rounds, 2 * w + 1, out, e.next)
 }
 
 // The texts of all of them.
-fn octant_texts(
-    s: Sizes,
-    cells: &[u8],
-    state: &mut [u8],
-    way: &mut [u8],
-    out: &mut [u8],
-    at: usize,
-) -> usize
-    requires { ⌜ (checkMap s (now cells) ≡ Done) × (length (now state) ≡ stateLength s) × (length (now way) ≡ links s)
-        × (at + 60416 ≤ length (now out)) ⌝ }
+fn octant_texts(s: Sizes, cells: &[u8], state: &mut [u8], out: &mut [u8], at: usize) -> usize
+    requires { ⌜ (checkMap s (now cells) ≡ Done) × (length (now state) ≡ stateLength s) × (at + 60416 ≤ length (now out)) ⌝ }
     ensures { λ r. ⌜ Said (now (out .entry)) at (octantTexts (mapOf s (now (cells .entry))) (orientations s)) (now (out .exit)) r
         × (r ≤ at + 60416) ⌝ }
 {
     let mut next = at;
     for o in 0..orientations(s) {
-        next = octant_text(s, cells, o, state, way, out, next);
+        next = octant_text(s, cells, o, state, out, next);
     }
     next
-}
-
-// Room for the state of the largest mesh, and for a word on each of its links.
-fn blank_state() -> [u8; 28672]
-    ensures { λ r. ⌜ 28672 ≡ length r ⌝ }
-{
-    [0; 28672]
-}
-
-fn blank_way() -> [u8; 24576]
-    ensures { λ r. ⌜ 24576 ≡ length r ⌝ }
-{
-    [0; 24576]
 }
 
 // The text for a map that is in order.
@@ -94,13 +69,11 @@ fn map_text(s: Sizes, cells: &[u8], out: &mut [u8]) -> usize
     requires { ⌜ (checkMap s (now cells) ≡ Done) × (60672 ≤ length (now out)) ⌝ }
     ensures { λ r. ⌜ Said (now (out .entry)) 0 (mapText (mapOf s (now (cells .entry)))) (now (out .exit)) r × (r ≤ 60672) ⌝ }
 {
-    let mut state = blank_state();
-    let mut way = blank_way();
+    let mut state = io::large_buffer();
     let long = 7 * s.nodes();
-    let wide = 6 * s.nodes();
     let first = first_line(s, count_faulty(cells), out, 0);
     let next = legend(out, first);
-    octant_texts(s, cells, &mut state[..long], &mut way[..wide], out, next)
+    octant_texts(s, cells, &mut state[..long], out, next)
 }
 
 // The text for a file, at the front of the lent bytes; its length. A refusal is told as the report tells it.
@@ -108,7 +81,7 @@ pub fn gossip(file: &[u8], out: &mut [u8]) -> usize
     requires { ⌜ 60672 ≤ length (now out) ⌝ }
     ensures { λ r. ⌜ Said (now (out .entry)) 0 (gossip (now (file .entry))) (now (out .exit)) r × (r ≤ 60672) ⌝ }
 {
-    let mut cells = blank_cells();
+    let mut cells = io::buffer();
     match read_map(file, &mut cells) {
         MapRead::Read(s) => {
             let n = s.nodes();

@@ -13,7 +13,8 @@ use Rattle.field.proofs.entry.check_hear.Tie as tie
 
 in-order : (c : tie.After-enum-told)
     → let a = c .before .before .before .before .args in
-    checkState (a .s) (length (now (a .state))) andThen checkOrientation (a .o) andThen checkNode (a .s) (a .k) andThen checkDirection (a .j) andThen checkWord (a .word) ≡ Done
+    checkState (a .s) (length (now (a .state))) andThen checkOrientation (a .o) andThen checkNode (a .s) (a .k)
+    andThen checkDirection (a .j) andThen checkWord (a .word) ≡ Done
 in-order c = sym (c .before .before .check-numbers .ensures) ∙ c .enum-told .given .1
 
 given : (c : tie.After-enum-told) → let a = c .before .before .before .before .args in Numbers (a .s) (now (a .state)) (a .o) (a .k) (a .j) (a .word)

@@ -10,7 +10,8 @@ use Rattle.field.proofs.entry.hear.Statement.{statement}
 use Rattle.field.proofs.entry.hear.Tie as tie
 
 in-order : (c : tie.After-enum-told)
-    → let a = c .before .before .before .before .before .args in hearAnswer (a .s) (a .orientation) (a .listener) (a .direction) (a .word) (now (a .state)) ≡ Done
+    → let a = c .before .before .before .before .before .args in hearAnswer (a .s) (a .orientation) (a .listener) (a .direction) (a .word)
+    (now (a .state)) ≡ Done
 in-order c = sym (c .before .before .check-hear .ensures) ∙ c .enum-told .given .1
 
 returns : tie.Need-returns

@@ -33,8 +33,14 @@ slice-write-state c = let g = given (c .before .before) in omega (arith, g .whol
 rule-byte-requires : tie.Need-rule-byte-requires
 rule-byte-requires c κs =
     let s = c .before .before .before in
-    let g = given s in
-    (g .whole .sized, g .turned, record { low = omega (arith, nodes-le (s .args .s) (g .whole .sized)); room = simp length-set (omega (arith, g .whole .long)) })
+    let g = given s in (
+      g .whole .sized,
+      g .turned,
+      record {
+        low = omega (arith, nodes-le (s .args .s) (g .whole .sized));
+        room = simp length-set (omega (arith, g .whole .long));
+      },
+    )
 
 slice-write-state-2 : tie.Need-slice-write-state-2
 slice-write-state-2 c = let g = given (c .before .before .before .before) in simp length-set (omega (arith, g .whole .long))

@@ -36,9 +36,6 @@ add-row c =
     let s = c .before .before .before .before .before .before .before .before .before in
     omega (arith, rows-le (s .args .s) (s .pre .0))
 
-loop-less : tie.Need-loop-less Inv-loop μ-loop
-loop-less c = omega arith
-
 loop-again : tie.Need-loop-again Inv-loop μ-loop
 loop-again c = (omega arith, c .before .before .put-row .ensures)
 
@@ -55,15 +52,5 @@ returns c =
 
 pub put-fresh-spec : {M : Type 1} → statement M
 put-fresh-spec =
-    tie.close
-    (tie.spec
-    Inv-loop
-    μ-loop
-    mul-rows
-    loop-holds
-    put-row-requires
-    add-row
-    loop-less
-    loop-again
-    same-length
-    returns)
+    tie.close (tie.spec Inv-loop μ-loop mul-rows loop-holds put-row-requires add-row (λ c. omega arith) loop-again
+    same-length returns)

@@ -20,10 +20,12 @@ use Rattle.field.proofs.making.put_node.Tie as tie
 
 -- what the calls ask of the bytes that they read and write
 near-on : (n : tie.After-number) (a : Axis) →
-    let c = n .before .before .before .args in Near (λ i. i < length (now (c .cells))) (n .number .result) (on (c .p) a) (span (c .s) a) (stride (c .s) a)
+    let c =
+    n .before .before .before .args in Near (λ i. i < length (now (c .cells))) (n .number .result) (on (c .p) a) (span (c .s) a) (stride (c .s) a)
 near-on n a =
     let s = n .before .before .before in
-    beside (s .args .s) (λ i. i < length (now (s .args .cells))) (λ k h. omega (arith, s .pre .3)) (s .args .p) (s .pre .2) _ (n .number .ensures .0) a
+    beside (s .args .s) (λ i. i < length (now (s .args .cells))) (λ k h. omega (arith, s .pre .3)) (s .args .p) (s .pre .2) _
+    (n .number .ensures .0) a
 
 held-in : (n : tie.After-number) (t : List ℕ) → length t ≡ length (now (n .before .before .before .args .state)) → Held t (n .number .result)
 held-in n t e =
@@ -43,7 +45,8 @@ long-kept z =
     z .put-axis3 .kept .1 .0 ∙ y .put-axis2 .kept .1 .0 ∙ x .put-axis .kept .1 .0
 
 held-then : (z : tie.After-put-axis3) →
-    let n = z .before .before .before .before .before .before .before .before .before .before .before in Held (z .put-axis3 .last .1 .0) (n .number .result)
+    let n =
+    z .before .before .before .before .before .before .before .before .before .before .before in Held (z .put-axis3 .last .1 .0) (n .number .result)
 held-then z =
     let n = z .before .before .before .before .before .before .before .before .before .before .before in
     held-in n (z .put-axis3 .last .1 .0) (long-kept z)
@@ -100,7 +103,8 @@ returns c =
     let own : c .byte-by .result ≡ cond (faultyCell (getD (now (a .cells)) k 0)) 1 (quickRule (a .s) (a .o) (heard (z .put-axis3 .last .1 .0) k)) =
     c .byte-by .ensures ∙ (rw (c .before .before .before .faulty-cell .ensures, c .before .rule-byte .ensures)) in
     rw (← e)
-    (node-done (a .s) (now (a .cells)) (a .o) (a .p) (s .pre .2) k e (now (a .state)) (x .put-axis .last .1 .0) (y .put-axis2 .last .1 .0) (z .put-axis3 .last .1 .0)
+    (node-done (a .s) (now (a .cells)) (a .o) (a .p) (s .pre .2) k e (now (a .state)) (x .put-axis .last .1 .0) (y .put-axis2 .last .1 .0)
+    (z .put-axis3 .last .1 .0)
     (x .put-axis .ensures m (placeOf (a .s) k)) (y .put-axis2 .ensures m (placeOf (a .s) k)) (z .put-axis3 .ensures m (placeOf (a .s) k))
     (rw e (s .pre .4)) (n .number .ensures .1) (long-kept z) (c .byte-by .result) own)
 

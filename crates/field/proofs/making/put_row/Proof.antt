@@ -42,12 +42,6 @@ put-node-requires c κs =
       rw (row-number (a .s) (a .row) (l .x)) (l .inv .1),
     )
 
-add-x : tie.Need-add-x Inv-loop μ-loop
-add-x c = omega arith
-
-loop-less : tie.Need-loop-less Inv-loop μ-loop
-loop-less c = omega arith
-
 loop-again : tie.Need-loop-again Inv-loop μ-loop
 loop-again c =
     let n = c .before .before in
@@ -71,16 +65,5 @@ returns c =
 
 pub put-row-spec : {M : Type 1} → statement M
 put-row-spec =
-    tie.close
-    (tie.spec
-    Inv-loop
-    μ-loop
-    rem-y
-    div-z
-    loop-holds
-    put-node-requires
-    add-x
-    loop-less
-    loop-again
-    same-length
-    returns)
+    tie.close (tie.spec Inv-loop μ-loop rem-y div-z loop-holds put-node-requires (λ c. omega arith) (λ c. omega arith)
+    loop-again same-length returns)

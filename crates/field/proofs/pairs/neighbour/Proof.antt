@@ -19,13 +19,18 @@ number-requires : tie.Need-number-requires
 number-requires c κs =
     let t = c .before .before .before in
     let s = t .before in
-    let a = s .args in
-    (s .pre .0, next-in (a .s) (placeOf (a .s) (a .k)) _ (place-in (a .s) (a .k) (s .pre .1)) (a .j) (sym (t .next-to .ensures) ∙ c .before .q .given .1))
+    let a = s .args in (
+      s .pre .0,
+      next-in (a .s) (placeOf (a .s) (a .k)) _ (place-in (a .s) (a .k) (s .pre .1)) (a .j)
+          (sym (t .next-to .ensures) ∙ c .before .q .given .1),
+    )
 
 returns-2 : tie.Need-returns-2
 returns-2 c =
-    let t = c .before .before .before .before in
-    (c .number .ensures .0 ∙ sym (ap (numberAt (t .before .args .s)) (sym (t .next-to .ensures) ∙ c .before .before .q .given .1)), c .number .ensures .1)
+    let t = c .before .before .before .before in (
+      c .number .ensures .0 ∙ sym (ap (numberAt (t .before .args .s)) (sym (t .next-to .ensures) ∙ c .before .before .q .given .1)),
+      c .number .ensures .1,
+    )
 
 pub neighbour-spec : {M : Type 1} → statement M
 neighbour-spec =

@@ -26,7 +26,8 @@ returns c =
     let a = s .args in
     let e : n .neighbour .result ≡ neighbour (a .s) (a .k) (a .j) = n .neighbour .ensures .0 in
     let l : neighbour (a .s) (a .k) (a .j) < nodes (a .s) = rw (← e) (n .neighbour .ensures .1) in
-    rw (c .before .before .faulty .ensures, c .before .linked .ensures, c .faulty2 .ensures, e) (sym (pair-is (a .s) (now (a .state)) (a .k) (a .j) (s .pre .1) l))
+    rw (c .before .before .faulty .ensures, c .before .linked .ensures, c .faulty2 .ensures, e)
+    (sym (pair-is (a .s) (now (a .state)) (a .k) (a .j) (s .pre .1) l))
 
 pub pair-spec : {M : Type 1} → statement M
 pair-spec = tie.close (tie.spec (λ c κs. search needs) faulty-requires (λ c κs. search needs) faulty-requires-2 returns)

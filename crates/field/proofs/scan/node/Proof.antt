@@ -45,7 +45,8 @@ returns c =
     let k = n .number .result in
     let e = n .number .ensures .0 in
     let (et, bt) = h .heard .ensures in (
-      faulty-test (a .s) (a .o) t k (h .heard .result) et bt (f .faulty-hears .result) (f .faulty-hears .ensures) (c .if1 .taken) ∙ ap (nodeTest (a .s) (a .o) t) e,
+      faulty-test (a .s) (a .o) t k (h .heard .result) et bt (f .faulty-hears .result) (f .faulty-hears .ensures) (c .if1 .taken)
+          ∙ ap (nodeTest (a .s) (a .o) t) e,
       subst (λ (k : ℕ). 0 isBut255 nodeNews (a .s) t k) e (faulty-news (a .s) (a .o) t k (h .heard .result) et bt (c .if1 .taken)),
       omega arith,
     )
@@ -66,7 +67,8 @@ returns-2 c =
     let own = r .ruled .ensures (heard t k) bt et in
     let six = b .some .ensures .0 _ (differs-byte (a .s) (a .o) t k (h .heard .result) et bt (w .shown .result) es bs)
     (differs-six (a .s) (a .o) t k (h .heard .result) et bt (w .shown .result) es bs) in (
-      working-test (a .s) (a .o) t k (h .heard .result) et bt (w .shown .result) es bs (r .ruled .result) own (c .if1 .left) ∙ ap (nodeTest (a .s) (a .o) t) e,
+      working-test (a .s) (a .o) t k (h .heard .result) et bt (w .shown .result) es bs (r .ruled .result) own (c .if1 .left)
+          ∙ ap (nodeTest (a .s) (a .o) t) e,
       subst (λ (k : ℕ). b .some .result isBut255 nodeNews (a .s) t k) e
           (working-news (a .s) (a .o) t k (h .heard .result) et bt (w .shown .result) es bs (b .some .result) six (c .if1 .left)),
       b .some .ensures .1,

@@ -39,20 +39,18 @@ loop-holds c = (omega arith, refl, (0, refl), omega arith)
 
 node-requires : tie.Need-node-requires Inv-loop μ-loop
 node-requires c κs =
-    let s = c .before .before .before .before .before in
-    (s .pre .0, s .pre .1, row-in (s .args .s) (s .args .row) (omega (arith, s .pre .0 .sized .h-lo)) (s .pre .2) (c .before .loop .x) (c .loop-test .taken))
+    let s = c .before .before .before .before .before in (
+      s .pre .0,
+      s .pre .1,
+      row-in (s .args .s) (s .args .row) (omega (arith, s .pre .0 .sized .h-lo)) (s .pre .2) (c .before .loop .x)
+          (c .loop-test .taken),
+    )
 
 add-news : tie.Need-add-news Inv-loop μ-loop
 add-news c =
     let n = c .before .before in
     let l = n .before .before in
     omega (arith, n .node .ensures .2, l .loop .inv .3, l .before .before .before .before .pre .0 .sized .w-hi)
-
-add-x : tie.Need-add-x Inv-loop μ-loop
-add-x c = omega arith
-
-loop-less : tie.Need-loop-less Inv-loop μ-loop
-loop-less c = omega arith
 
 loop-again : tie.Need-loop-again Inv-loop μ-loop
 loop-again c =
@@ -89,16 +87,5 @@ returns c =
 
 pub row-spec : {M : Type 1} → statement M
 row-spec =
-    tie.close
-    (tie.spec
-    Inv-loop
-    μ-loop
-    rem-y
-    div-z
-    loop-holds
-    node-requires
-    add-news
-    add-x
-    loop-less
-    loop-again
-    returns)
+    tie.close (tie.spec Inv-loop μ-loop rem-y div-z loop-holds node-requires add-news (λ c. omega arith)
+    (λ c. omega arith) loop-again returns)

@@ -59,9 +59,6 @@ add-at c =
     let s = c .before .before .before .before .before .before .before in
     omega (arith, rows-le (s .args .s) (s .pre .0 .sized))
 
-loop-less : tie.Need-loop-less Inv-loop μ-loop
-loop-less c = omega arith
-
 loop-again : tie.Need-loop-again Inv-loop μ-loop
 loop-again c =
     let r = c .before .before in
@@ -93,16 +90,5 @@ returns-2 c =
 
 pub scan-spec : {M : Type 1} → statement M
 scan-spec =
-    tie.close
-    (tie.spec
-    Inv-loop
-    μ-loop
-    mul-rows
-    loop-holds
-    row-requires
-    returns
-    add-news
-    add-at
-    loop-less
-    loop-again
-    returns-2)
+    tie.close (tie.spec Inv-loop μ-loop mul-rows loop-holds row-requires returns add-news add-at (λ c. omega arith)
+    loop-again returns-2)

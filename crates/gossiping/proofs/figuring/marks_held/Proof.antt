@@ -35,9 +35,6 @@ mul-marks-in c = omega (arith, c .before .before .nodes .ensures .1)
 shared-slice-read-marks-in : tie.Need-shared-slice-read-marks-in Inv-loop μ-loop
 shared-slice-read-marks-in c = let n = c .before .before .before in omega (arith, n .nodes .ensures .0, n .before .before .pre .long)
 
-marks-in-requires : tie.Need-marks-in-requires Inv-loop μ-loop
-marks-in-requires c κs = search needs
-
 add-held : tie.Need-add-held Inv-loop μ-loop
 add-held c =
     let l = c .before .before .before in
@@ -45,9 +42,6 @@ add-held c =
 
 add-k : tie.Need-add-k Inv-loop μ-loop
 add-k c = omega (arith, c .before .before .before .before .nodes .ensures .1)
-
-loop-less : tie.Need-loop-less Inv-loop μ-loop
-loop-less c = omega arith
 
 loop-again : tie.Need-loop-again Inv-loop μ-loop
 loop-again c =
@@ -68,17 +62,5 @@ returns c =
 
 pub marks-held-spec : {M : Type 1} → statement M
 marks-held-spec =
-    tie.close
-    (tie.spec
-    Inv-loop
-    μ-loop
-    nodes-requires
-    loop-holds
-    mul-marks-in
-    shared-slice-read-marks-in
-    marks-in-requires
-    add-held
-    add-k
-    loop-less
-    loop-again
-    returns)
+    tie.close (tie.spec Inv-loop μ-loop nodes-requires loop-holds mul-marks-in shared-slice-read-marks-in
+    (λ c κs. search needs) add-held add-k (λ c. omega arith) loop-again returns)

@@ -12,7 +12,8 @@ returns : tie.Need-returns
 returns c =
     let s = c .before .before .before .before in
     let a = s .args in
-    sym (nothing-new (a .s) (a .o) (now (a .state)) (s .pre .0) (a .link / 6) (a .link % 6) (a .word) (sym (c .before .brings .ensures) ∙ not-true _ (c .if1 .taken)))
+    sym (nothing-new (a .s) (a .o) (now (a .state)) (s .pre .0) (a .link / 6) (a .link % 6) (a .word)
+    (sym (c .before .brings .ensures) ∙ not-true _ (c .if1 .taken)))
 
 pub come-spec : {M : Type 1} → statement M
 come-spec =

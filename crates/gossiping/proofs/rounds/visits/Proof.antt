@@ -59,9 +59,6 @@ visit-requires c κs =
 add-i : tie.Need-add-i Inv-loop μ-loop
 add-i c = omega (arith, c .before .before .before .before .before .before .before .before .before .links .ensures .2)
 
-loop-less : tie.Need-loop-less Inv-loop μ-loop
-loop-less c = omega arith
-
 loop-again : tie.Need-loop-again Inv-loop μ-loop
 loop-again c =
     let done = c .before .before .before .before in
@@ -92,19 +89,5 @@ returns c =
 
 pub visits-spec : {M : Type 1} → statement M
 visits-spec =
-    tie.close
-    (tie.spec
-    Inv-loop
-    μ-loop
-    links-requires
-    loop-holds
-    mul-visit
-    add-visit
-    rem-visit
-    visit-requires
-    add-i
-    loop-less
-    loop-again
-    same-length
-    same-length-2
-    returns)
+    tie.close (tie.spec Inv-loop μ-loop links-requires loop-holds mul-visit add-visit rem-visit visit-requires add-i
+    (λ c. omega arith) loop-again same-length same-length-2 returns)

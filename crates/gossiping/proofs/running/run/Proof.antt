@@ -10,7 +10,8 @@ slice-aggregate-write-all : tie.Need-slice-aggregate-write-all
 slice-aggregate-write-all c =
     let told = c .before .before in
     let r = told .gossip in
-    sym (length-take-le (r .result) (r .last .1 .0) (omega (arith, r .ensures .1, r .kept .1 .0, told .before .before .before .blank-text .ensures)))
+    sym (length-take-le (r .result) (r .last .1 .0)
+    (omega (arith, r .ensures .1, r .kept .1 .0, told .before .before .before .large-buffer .ensures)))
 
 pub run-spec : {M : Type 1} → statement M
 run-spec =

@@ -41,8 +41,13 @@ module _ (l : tie.At-loop Inv-loop μ-loop) where
 loop-holds : tie.Need-loop-holds Inv-loop μ-loop
 loop-holds c =
     let s = c .before .before .before .before in
-    let a = s .args in
-    (refl, refl, refl, turn-first (mapOf (a .s) (now (a .cells))) (a .o) (a .at) (now (a .out)) (now (a .state)) (now (a .way)) (s .pre .2) (s .pre .3))
+    let a = s .args in (
+      refl,
+      refl,
+      refl,
+      turn-first (mapOf (a .s) (now (a .cells))) (a .o) (a .at) (now (a .out)) (now (a .state)) (now (a .way)) (s .pre .2)
+          (s .pre .3),
+    )
 
 tell-round-requires : tie.Need-tell-round-requires Inv-loop μ-loop
 tell-round-requires c κs =
@@ -66,7 +71,9 @@ returns c =
     let l = told .before .before .before in
     let (n, line, room) = told .tell-round .ensures in
     let e = turn-last (sized l) (start l .pre .1) (l .loop .inv .3) (sym n ∙ c .if1 .taken) in
-    let text = turn-told (sized l) (start l .pre .1) (l .loop .inv .3) (told .tell-round .last .1 .1 .1 .1 .0) (told .tell-round .result .next) (omega (arith, fits l)) line in (
+    let text =
+    turn-told (sized l) (start l .pre .1) (l .loop .inv .3) (told .tell-round .last .1 .1 .1 .1 .0) (told .tell-round .result .next)
+    (omega (arith, fits l)) line in (
       e,
       said-as (ap (λ (k : ℕ). roundLines (m l) (start l .args .o) (suc k)) e) text,
       omega (arith, room, l .loop .inv .3 .room, l .loop .inv .3 .few, sized l .w-hi, sized l .h-hi, sized l .d-hi),
