@@ -23,9 +23,9 @@ use Rattle.routes.specs.Offered.{offers, lowest, routeWithin, route}
 use Rattle.routes.specs.Box.{between, reach, far, Within}
 use Rattle.routes.specs.Sweep.{entry, Spread, waysIn, waysOf}
 use Rattle.routes.specs.Table.{towards, nearest, trail}
-use Rattle.routes.proofs.Differences.{hops-zero, hops-is, same-iff, size-is, place-eq}
+use Rattle.routes.proofs.Differences.{at-eq, hops-zero, hops-is, same-iff, size-is, place-eq}
 use Rattle.routes.proofs.Paths.{leads-iff, hop-lowers}
-use Rattle.routes.proofs.Offered.{lowest-is, least-same, offers-iff}
+use Rattle.routes.proofs.Offered.{lowest-is, least-one, offers-iff}
 use Rattle.routes.proofs.Runs.{runOn, origin, reach-first, reach-far}
 use Rattle.routes.proofs.Backward.{ahead, node-in, step-back, from-end, leads-entry, offers-back, offers-on}
 use Rattle.routes.proofs.Entered.{ways-in}
@@ -116,7 +116,7 @@ module _ (m : Map) (s e : Place) (s-in : Inside (m .sizes) s) (e-in : Inside (m 
       let l : T (ltb 0 (on t a)) = T-and (ltb 0 (on t a)) (ahead m s e s-in e-in (put a t (on t a - 1))) .0 (rw h tt) .0 in
       let n : next (m .sizes) p j ≡ At q = step-back m s e s-in e-in t w a (ltb→lt 0 (on t a) l) in
       let L = lowest-is 6 (offers m e p) j (dir-lt a (not (runOn g a .down))) o in
-      let f : lowest 6 (offers m e p) ≡ j = least-same (offers m e p) (lowest 6 (offers m e p)) j (L .none) (L .passes)
+      let f : lowest 6 (offers m e p) ≡ j = least-one (λ i. T (offers m e p i)) (lowest 6 (offers m e p)) j (L .none) (L .passes)
       (none-here (offers m e p) a (runOn g a .down) (away t w a) none) o in
       let (r, l, k, y, P) = offers-iff m e p j i .0 o in
       let z : r ≡ q = at-eq (sym k ∙ n) in
@@ -125,9 +125,6 @@ module _ (m : Map) (s e : Place) (s-in : Inside (m .sizes) s) (e-in : Inside (m 
         nearer = subst (λ (r : Place). hops p e ≡ suc (hops r e)) z (hop-lowers m e p r j i k y);
         leading = subst (λ (r : Place). T (leads m e r e)) z (leads-iff m e r e (next-in (m .sizes) p r i j k) .1 (l, P));
       }
-    where
-      at-eq : {p q : Place} → At p ≡ At q → p ≡ q
-      at-eq h = cc
 
   -- the start has a path if it is the end, or if a way from it is seen
   pub granted-is : (w : Ways) → w ≡ waysOf (ahead m s e s-in e-in) (far g) → leads m e s e ≡ (eqb (hops s e) 0 || not (eqb (w .x + w .y + w .z) 0))

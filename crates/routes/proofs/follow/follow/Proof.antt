@@ -37,12 +37,6 @@ here c =
     let a = c .before .before .before .before .before .args in
     subst (λ (t : Place). Within (a .g) t) (sym (c .before .loop .inv .1)) (trail-within (a .s) (a .g) (now (a .table)) (c .before .loop .i))
 
-far-requires : tie.Need-far-requires Inv-loop μ-loop
-far-requires c κs = search needs
-
-loop-holds : tie.Need-loop-holds Inv-loop μ-loop
-loop-holds c = (omega arith, c .far .ensures, fill-none _ _ _)
-
 node-requires : tie.Need-node-requires Inv-loop μ-loop
 node-requires c κs = let s = c .before .before .before .before .before in (s .pre .0 .sized, s .pre .0 .held, here c)
 
@@ -54,19 +48,10 @@ cast-out c =
 mul-out : tie.Need-mul-out Inv-loop μ-loop
 mul-out c = let s = c .before .before .before .before .before .before in omega (arith, s .good .1 .1 .1 .1 .0 .1, s .pre .1)
 
-slice-write-out : tie.Need-slice-write-out Inv-loop μ-loop
-slice-write-out c = omega arith
-
 step-nearer-requires : tie.Need-step-nearer-requires Inv-loop μ-loop
 step-nearer-requires c κs =
     let s = c .before .before .before .before .before .before in
     (s .pre .0, here (c .before))
-
-add-i : tie.Need-add-i Inv-loop μ-loop
-add-i c = omega arith
-
-loop-less : tie.Need-loop-less Inv-loop μ-loop
-loop-less c = omega arith
 
 loop-again : tie.Need-loop-again Inv-loop μ-loop
 loop-again c =
@@ -79,9 +64,6 @@ loop-again c =
           (node-at (a .s) (a .g) (l .t) (trail (a .s) (a .g) (now (a .table)) (l .i)) (n .result) (n .ensures .0) (l .inv .1)),
     )
 
-same-length : tie.Need-same-length Inv-loop μ-loop
-same-length c = c .before .loop .inv .2 .size
-
 returns : tie.Need-returns Inv-loop μ-loop
 returns c =
     let a = c .before .before .before .before .before .args in
@@ -91,19 +73,5 @@ returns c =
 
 pub follow-spec : {M : Type 1} → statement M
 follow-spec =
-    tie.close
-    (tie.spec
-    Inv-loop
-    μ-loop
-    far-requires
-    loop-holds
-    node-requires
-    cast-out
-    mul-out
-    slice-write-out
-    step-nearer-requires
-    add-i
-    loop-less
-    loop-again
-    same-length
-    returns)
+    tie.close (tie.spec Inv-loop μ-loop (λ c κs. search needs) (λ c. (omega arith, c .far .ensures, fill-none _ _ _)) node-requires cast-out mul-out
+    (λ c. omega arith) step-nearer-requires (λ c. omega arith) (λ c. omega arith) loop-again (λ c. c .before .loop .inv .2 .size) returns)

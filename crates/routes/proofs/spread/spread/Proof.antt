@@ -29,16 +29,10 @@ abbrev μ-loop : tie.MeasureT-loop
 small : (c : tie.Start Inv-loop μ-loop) → Inside largest (far (c .args .g))
 small c = let r = c .pre .0 in far-in (c .args .s) (c .args .g) (r .sized) (r .held)
 
-add-n : tie.Need-add-n Inv-loop μ-loop
-add-n c = omega (arith, small (c .before .before .before))
-
 node-requires : tie.Need-node-requires Inv-loop μ-loop
 node-requires c κs =
     let r = c .before .before .before .pre .0 in
     (r .sized, r .held, record { x-le = omega arith; y-le = omega arith; z-le = omega arith })
-
-slice-write-bytes : tie.Need-slice-write-bytes Inv-loop μ-loop
-slice-write-bytes c = omega (arith, c .node .ensures .1, c .before .before .before .before .pre .1)
 
 loop-holds : tie.Need-loop-holds Inv-loop μ-loop
 loop-holds c =
@@ -65,9 +59,6 @@ sweep-layer-requires c κs =
 
 add-c : tie.Need-add-c Inv-loop μ-loop
 add-c c = omega (arith, small (c .before .before .before .before .before .before .before .before .before .before))
-
-loop-less : tie.Need-loop-less Inv-loop μ-loop
-loop-less c = omega arith
 
 loop-again : tie.Need-loop-again Inv-loop μ-loop
 loop-again c =
@@ -127,5 +118,6 @@ returns c =
 
 pub spread-spec : {M : Type 1} → statement M
 spread-spec =
-    tie.close (tie.spec Inv-loop μ-loop add-n node-requires slice-write-bytes loop-holds sweep-layer-requires add-c loop-less loop-again
+    tie.close (tie.spec Inv-loop μ-loop (λ c. omega (arith, small (c .before .before .before))) node-requires
+    (λ c. omega (arith, c .node .ensures .1, c .before .before .before .before .pre .1)) loop-holds sweep-layer-requires add-c (λ c. omega arith) loop-again
     (λ c κs. search needs) ways-in-requires same-length returns)

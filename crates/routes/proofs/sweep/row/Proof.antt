@@ -33,9 +33,6 @@ Inv-loop cells base r y z from bytes₀ n start last₀ a₀ bytes last a =
 abbrev μ-loop : tie.MeasureT-loop
 μ-loop cells base r y z from bytes₀ n start last₀ a₀ bytes last a = n - a
 
-add-n : tie.Need-add-n Inv-loop μ-loop
-add-n c = let s = c .before .before .before in omega (arith, steps-lt (s .args .r) 4096 (s .pre .0 .small))
-
 loop-holds : tie.Need-loop-holds Inv-loop μ-loop
 loop-holds c =
     let a = c .before .before .before .args in
@@ -66,12 +63,6 @@ near c y b =
     let l = c .before .before .loop in
     side (s .args .r) (l .a) (c .at .result) y 4096 (now (s .args .bytes)) (l .bytes) (c .at .ensures) (omega arith) (s .pre .0 .small) b (l .inv .3 .size)
 
-add-join : tie.Need-add-join Inv-loop μ-loop
-add-join c = omega (arith, here c)
-
-shared-slice-read-join : tie.Need-shared-slice-read-join Inv-loop μ-loop
-shared-slice-read-join c = here (c .before) .0
-
 add-join-2 : tie.Need-add-join-2 Inv-loop μ-loop
 add-join-2 c = omega (arith, here (c .before), c .before .before .before .before .before .before .before .pre .0 .y-row .small)
 
@@ -89,9 +80,6 @@ sub-join-2 c = near (c .before .before) _ (c .before .before .before .before .be
 
 slice-read-join-2 : tie.Need-slice-read-join-2 Inv-loop μ-loop
 slice-read-join-2 c = near (c .before .before .before) _ (c .before .before .before .before .before .before .before .before .before .pre .0 .z-row) .2
-
-slice-write-bytes : tie.Need-slice-write-bytes Inv-loop μ-loop
-slice-write-bytes c = here (c .before .before .before .before) .1
 
 add-a : tie.Need-add-a Inv-loop μ-loop
 add-a c = let s = c .before .before .before .before .before .before .before .before .before .before in omega (arith, steps-lt (s .args .r) 4096 (s .pre .0 .small))
@@ -117,9 +105,6 @@ loop-again c =
       row-more (now (a .cells)) (now (a .bytes)) (l .bytes) (a .r) (a .base) (a .y) (a .z) (a .from) (l .a) R (l .inv .0) h B v k e,
     )
 
-same-length : tie.Need-same-length Inv-loop μ-loop
-same-length c = c .before .loop .inv .3 .size
-
 returns : tie.Need-returns Inv-loop μ-loop
 returns c =
     let l = c .before .loop in
@@ -129,6 +114,7 @@ returns c =
 
 pub row-spec : {M : Type 1} → statement M
 row-spec =
-    tie.close (tie.spec Inv-loop μ-loop add-n (λ c. search needs) loop-holds at-requires add-join
-    shared-slice-read-join add-join-2 sub-join slice-read-join add-join-3 sub-join-2 slice-read-join-2 (λ c κs. search needs)
-    slice-write-bytes add-a (λ c. omega arith) loop-again same-length returns)
+    tie.close (tie.spec Inv-loop μ-loop (λ c. let s = c .before .before .before in omega (arith, steps-lt (s .args .r) 4096 (s .pre .0 .small)))
+    (λ c. search needs) loop-holds at-requires (λ c. omega (arith, here c)) (λ c. here (c .before) .0) add-join-2 sub-join slice-read-join add-join-3
+    sub-join-2 slice-read-join-2 (λ c κs. search needs) (λ c. here (c .before .before .before .before) .1) add-a (λ c. omega arith) loop-again
+    (λ c. c .before .loop .inv .3 .size) returns)

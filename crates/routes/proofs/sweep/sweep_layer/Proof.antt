@@ -24,16 +24,10 @@ abbrev μ-loop : tie.MeasureT-loop
 small : (c : tie.Start Inv-loop μ-loop) → Inside largest (far (c .args .g))
 small c = let r = c .pre .0 .room in far-in (c .args .s) (c .args .g) (r .sized) (r .held)
 
-add-n : tie.Need-add-n Inv-loop μ-loop
-add-n c = omega (arith, small (c .before .before .before))
-
 node-requires : tie.Need-node-requires Inv-loop μ-loop
 node-requires c κs =
     let p = c .before .before .before .pre .0 in
     (p .room .sized, p .room .held, record { x-le = omega arith; y-le = omega arith; z-le = p .back })
-
-loop-holds : tie.Need-loop-holds Inv-loop μ-loop
-loop-holds c = (omega arith, c .node .ensures .0, from-first _, layer-none _ _ _ _ _ _ _ _)
 
 row-requires : tie.Need-row-requires Inv-loop μ-loop
 row-requires c κs =
@@ -58,9 +52,6 @@ row-requires-2 c κs =
 add-b : tie.Need-add-b Inv-loop μ-loop
 add-b c = omega (arith, small (c .before .before .before .before .before .before .before .before .before .before .before .before))
 
-loop-less : tie.Need-loop-less Inv-loop μ-loop
-loop-less c = omega arith
-
 row-by : (cells old new : List ℕ) (r r′ : Run) (base y y′ z z′ f f′ : ℕ) → r ≡ r′ → y ≡ y′ → z ≡ z′ → f ≡ f′
     → Row cells old new r base y z f (r .steps + 1) → Row cells old new r′ base y′ z′ f′ (r′ .steps + 1)
 row-by cells old new r r′ base y y′ z z′ f f′ er ey ez ef R = rw (← er, ← ey, ← ez, ← ef) R
@@ -83,9 +74,6 @@ loop-again c =
           (r .ensures) (l .inv .1) (n .ensures .0) (l .inv .2) (w .ensures)),
     )
 
-same-length : tie.Need-same-length Inv-loop μ-loop
-same-length c = c .before .loop .inv .3 .size
-
 returns : tie.Need-returns Inv-loop μ-loop
 returns c =
     let a = c .before .before .before .before .before .before .args in
@@ -95,5 +83,6 @@ returns c =
 
 pub sweep-layer-spec : {M : Type 1} → statement M
 sweep-layer-spec =
-    tie.close (tie.spec Inv-loop μ-loop add-n node-requires loop-holds row-requires node-requires-2 row-requires-2 add-b loop-less loop-again
-    same-length returns)
+    tie.close (tie.spec Inv-loop μ-loop (λ c. omega (arith, small (c .before .before .before))) node-requires
+    (λ c. (omega arith, c .node .ensures .0, from-first _, layer-none _ _ _ _ _ _ _ _)) row-requires node-requires-2 row-requires-2 add-b
+    (λ c. omega arith) loop-again (λ c. c .before .loop .inv .3 .size) returns)
