@@ -21,7 +21,7 @@ use Rattle.routes.specs.Box.{between, reach, Within}
 use Rattle.routes.specs.Sweep.{entry, Seen}
 use Rattle.routes.proofs.Box.{held, reach-in}
 use Rattle.routes.proofs.Runs.{runOn, origin, within-on, within-put, reach-first, reach-eq, lies-back, lies-back-not, put-back}
-use Rattle.routes.proofs.Differences.{preferred-along, preferred-next, same-iff}
+use Rattle.routes.proofs.Differences.{at-eq, preferred-along, preferred-next, same-iff}
 use Rattle.routes.proofs.Paths.{mayHop-iff, begins-read, leads-is}
 use Rattle.routes.proofs.Reached.{start-reached}
 use Rattle.routes.specs.declared.Between.{Between}
@@ -99,9 +99,6 @@ module _ (m : Map) (s e : Place) (s-in : Inside (m .sizes) s) (e-in : Inside (m 
     where
       r : Place
       r = reach g (put a t (on t a - 1))
-
-      at-eq : {p q : Place} → At p ≡ At q → p ≡ q
-      at-eq h = cc
 
   begins-on : (rest : Place → Bool) (t : Place) → Within g t → (a : Axis) → begins m e rest (reach g t) (along a (runOn g a .down)) ≡ false
   begins-on rest t w a = bool-ext (begins m e rest (reach g t) (along a (runOn g a .down))) false

@@ -17,6 +17,10 @@ use Rattle.mesh.specs.declared.Place.{Place}
 use Rattle.mesh.specs.declared.Next.the-variants.{At, Edge}
 use Rattle.routes.specs.Differences.{difference, size, wanted, isWay, prefers, preferred, hops, same}
 
+-- a step leads to one place
+pub at-eq : {p q : Place} → At p ≡ At q → p ≡ q
+at-eq h = cc
+
 -- ---- one axis
 
 -- the end, at coordinate b, lies up or down from c

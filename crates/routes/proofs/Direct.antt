@@ -8,9 +8,8 @@ use mathlib.Core.List.{List, [], _∷_}
 use Prim.Native.Nat.{ℕ, zero, suc, _<_}
 use native.Mathlib.Omega.{arith}
 use lib.ListN.{length, getD}
-use lib.Dec.{T, ltb, ltb→lt}
+use lib.Dec.{T, ltb→lt}
 use lib.Seq.{ext-getD}
-use borrow.Author.Tests.{ltb-true, ltb-false}
 use Rattle.mesh.specs.Mesh.{Axis, X, Y, Z, span, on, Inside, nodes, number, placeOf}
 use Rattle.mesh.specs.Steps.{next, along}
 use Rattle.mesh.specs.Cells.{Map, mapOf, cellAt, mayPass, mayEnd, linked}
@@ -26,7 +25,9 @@ use Rattle.routes.specs.Offered.{offers, Lowest, ends, takes}
 use Rattle.routes.specs.Promise.{Begins, DirectWalk, TakesLowest}
 use Rattle.routes.proofs.Paths.{mayHop-iff}
 use Rattle.routes.proofs.Walks.{path-walk}
-use Rattle.routes.proofs.Offered.{offers-iff}
+use Rattle.routes.proofs.Differences.{at-eq}
+use Rattle.routes.proofs.Runs.{on-put}
+use Rattle.routes.proofs.Offered.{offers-iff, least-one}
 
 -- ---- two directions do not lead to one neighbour
 
@@ -51,11 +52,6 @@ same-axis Y Z p c d n e = absurd (n (ap (λ (q : Place). q .y) e))
 same-axis Z X p c d n e = absurd (n (ap (λ (q : Place). q .z) e))
 same-axis Z Y p c d n e = absurd (n (ap (λ (q : Place). q .z) e))
 same-axis Z Z p c d n e = refl
-
-on-put : (a : Axis) (p : Place) (c : ℕ) → on (put a p c) a ≡ c
-on-put X p c = refl
-on-put Y p c = refl
-on-put Z p c = refl
 
 same-along : (S : Sizes) (p r : Place) → Inside S p → (a b : Axis) (c d : Bool) → a ≡ b → next S p (along a c) ≡ At r → next S p (along b d) ≡ At r
     → along a c ≡ along b d
@@ -140,33 +136,27 @@ module _ (S : Sizes) (cells : List ℕ) (s e : ℕ) (k : s < nodes S) (k′ : e 
   abbrev m : Map
   m = mapOf S cells
 
-  abbrev from : Place
-  from = placeOf S s
-
-  abbrev to : Place
-  to = placeOf S e
-
   -- "a path is exactly a walk from start to end, each node working and a mesh neighbour of the one before, whose number of hops is the
   -- Manhattan distance"
-  pub path-direct : (l : List ℕ) → Path m from to l ↔ DirectWalk S cells s e l
+  pub path-direct : (l : List ℕ) → Path m (placeOf S s) (placeOf S e) l ↔ DirectWalk S cells s e l
   path-direct l =
       let i = place-in S s k in
       let i′ = place-in S e k′ in (
         λ w.
-            let (a, d) = path-walk m to from l i .0 (w .leading) in
+            let (a, d) = path-walk m (placeOf S e) (placeOf S s) l i .0 (w .leading) in
             record {
               size = d;
               first = walk-head a ∙ number-of S s;
-              last = walk-last (hops from to) a (omega arith) ∙ number-of S e;
+              last = walk-last (hops (placeOf S s) (placeOf S e)) a (omega arith) ∙ number-of S e;
               ends = (w .start-may, w .end-may);
-              works = λ n h. walk-steps m to a i n h .enters;
-              neighbours = λ n h. walk-steps m to a i n h .leads;
+              works = λ n h. walk-steps m (placeOf S e) a i n h .enters;
+              neighbours = λ n h. walk-steps m (placeOf S e) a i n h .leads;
             },
         λ w. record {
           start-may = w .ends .0;
           end-may = w .ends .1;
-          leading = path-walk m to from l i .1 (
-            steps-walk m to l (hops from to) from to i i′ (omega (arith, w .size)) (w .first ∙ sym (number-of S s)) (w .last ∙ sym (number-of S e))
+          leading = path-walk m (placeOf S e) (placeOf S s) l i .1 (
+            steps-walk m (placeOf S e) l (hops (placeOf S s) (placeOf S e)) (placeOf S s) (placeOf S e) i i′ (omega (arith, w .size)) (w .first ∙ sym (number-of S s)) (w .last ∙ sym (number-of S e))
                 (λ n h. record { enters = w .works n h; leads = w .neighbours n h }),
             w .size,
           );
@@ -236,18 +226,9 @@ module _ (S : Sizes) (cells : List ℕ) (s e : ℕ) where
   lowest-takes {p} (takes {r = r} j t n g L) i a b (suc c) h =
       let m : Map = mapOf S cells in
       let (r′, l′, g′, y, L′) = offers-iff m (placeOf S e) p j i .0 t in
-      let z : r′ ≡ r = cc in
+      let z : r′ ≡ r = at-eq (sym g′ ∙ g) in
       let v = mayHop-iff m (placeOf S e) p j r .0 (rw z at y) .2 in
       lowest-takes L (next-in S p r i j g) (enter-end m (placeOf S e) r v) b c (omega arith)
-
--- the lowest is one
-least-one : (B : ℕ → Type 0) (j k : ℕ) → B j → ((i : ℕ) → i < j → B i → ⊥) → B k → ((i : ℕ) → i < k → B i → ⊥) → j ≡ k
-least-one B j k b n c o = split (ltb j k) refl (ltb k j) refl
-  where
-    split : (t : Bool) → ltb j k ≡ t → (u : Bool) → ltb k j ≡ u → j ≡ k
-    split true f u g = absurd (o j (ltb-true j k f) b)
-    split false f true g = absurd (n k (ltb-true k j g) c)
-    split false f false g = omega (arith, ltb-false j k f, ltb-false k j g)
 
 -- so there is one such path
 pub one-route : (S : Sizes) (cells : List ℕ) (s e : ℕ) → s < nodes S → e < nodes S → (l k : List ℕ)
@@ -265,6 +246,6 @@ one-route S cells s e a b l k p t q u =
         let (c, g, x, n) = t i h in
         let (d, g′, y, o) = u i (omega (arith, w .size, v .size)) in
         let y′ : Begins S cells s e (getD l i 0) d = rw f y in
-        let z : c ≡ d = least-one (Begins S cells s e (getD l i 0)) c d x n y′ (λ j l r. o j l (rw (← f) r)) in
-        let r : placeOf S (getD l (suc i) 0) ≡ placeOf S (getD k (suc i) 0) = cc in
+        let z : c ≡ d = least-one (Begins S cells s e (getD l i 0)) c d n x (λ j l r. o j l (rw (← f) r)) y′ in
+        let r : placeOf S (getD l (suc i) 0) ≡ placeOf S (getD k (suc i) 0) = at-eq (sym g ∙ rw (f, z) g′) in
         sym (number-of S (getD l (suc i) 0)) ∙ ap (number S) r ∙ number-of S (getD k (suc i) 0)

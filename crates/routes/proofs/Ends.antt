@@ -1,5 +1,5 @@
 -- The checks of the ends of a route, one after another, and what they grant; and the answers that follow. Assumes nothing.
-use mathlib.Core.Path.{_≡_}
+use mathlib.Core.Path.{_≡_, sym, _∙_}
 use mathlib.Core.Bool.{true, false}
 use mathlib.Core.List.{List}
 use Prim.Native.Nat.{ℕ}
@@ -14,6 +14,7 @@ use Rattle.mesh.proofs.Answers.{split, ok-of, node-granted, map-granted}
 use Rattle.mesh.specs.declared.Sizes.{Sizes}
 use Rattle.mesh.specs.declared.Refusal.{Refusal}
 use Rattle.mesh.specs.declared.Refusal.the-variants.{BadNumber, FaultyEnd, NoPath}
+use Rattle.mesh.specs.declared.Answer.{Answer}
 use Rattle.mesh.specs.declared.Answer.the-variants.{Done, Refused}
 use Rattle.routes.specs.Differences.{hops}
 use Rattle.routes.specs.Paths.{leads}
@@ -70,6 +71,13 @@ module _ (S : Sizes) (cells : List ℕ) (s e : ℕ) where
         end-in = place-in S e (node-granted S e k);
         end-may = holds-true (mayEnd (cellAt m (placeOf S e))) .1 (ok-of (mayEnd (cellAt m (placeOf S e))) FaultyEnd b);
       }
+
+  -- past the checks, as a call is
+  abbrev pub Past : Type 0
+  Past = (checkEnds S cells s e ≡ Done) × Ends S cells (placeOf S s) (placeOf S e)
+
+  pub past-ends : (a : Answer) → a ≡ checkEnds S cells s e → a ≡ Done → Past
+  past-ends a e d = (sym e ∙ d, ends-granted (sym e ∙ d))
 
   -- ---- the verdict
 

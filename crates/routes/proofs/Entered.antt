@@ -2,40 +2,41 @@
 use mathlib.Core.Path.{_≡_, refl, ap, _∙_}
 use mathlib.Core.Bool.{Bool, true, false, cond, _&&_}
 use mathlib.Core.List.{List}
-use Prim.Native.Nat.{ℕ, zero, suc, _+_, _-_, _*_, _<_, _≤_}
+use Prim.Native.Nat.{ℕ, zero, suc, _+_, _-_, _<_, _≤_}
 use native.Mathlib.Numerals.{add-one}
 use native.Mathlib.Omega.{arith}
-use lib.ListN.{getD, getD-replicate}
-use lib.Dec.{ltb, eqb}
-use borrow.Author.Tests.{ltb-true, ne-eqb}
+use lib.ListN.{getD}
+use lib.Dec.{ltb}
+use borrow.Author.Tests.{ltb-true}
 use Rattle.mesh.specs.Tools.{bit}
-use Rattle.mesh.specs.Mesh.{place, Inside}
-use Rattle.mesh.proofs.Tests.{T-and, T-eq, bool-ext}
+use Rattle.mesh.specs.Mesh.{place, number}
+use Rattle.mesh.specs.Cells.{Map}
 use Rattle.mesh.proofs.Bits.{bit-le}
+use Rattle.mesh.specs.declared.Sizes.{Sizes}
 use Rattle.mesh.specs.declared.Place.{Place}
-use Rattle.routes.specs.Box.{largest, far}
-use Rattle.routes.specs.Sweep.{Holds, prior, seed, entered, waysOf}
+use Rattle.routes.specs.Box.{reach, far, Within}
+use Rattle.routes.specs.Sweep.{Seen, flat, spot, prior, Holds, Spread, entered, waysIn, waysOf}
+use Rattle.routes.proofs.Differences.{place-eq}
 use Rattle.routes.specs.declared.Ways.{Ways}
 use Rattle.routes.specs.declared.Between.{Between}
 
--- before the first layer only the corner is seen
-seed-at : (i : ℕ) → i < 256 → getD seed i 0 ≡ bit (eqb i 0)
-seed-at zero h = refl
-seed-at (suc i) h = getD-replicate 255 i 0 0 (omega arith) ∙ rw (ne-eqb (suc i) 0 (λ e. omega arith))
+module _ (S : Sizes) (g : Between) (bytes : List ℕ) (t : Place) (left x y z : ℕ) where
+  -- the byte one step nearer says whether there is a step left and what is seen there
+  entered-is : (p : Place) (v : Bool) → (0 < left → place (t .x - x) (t .y - y) (t .z - z) ≡ p) → (0 < left → getD bytes (number S (reach g p)) 0 ≡ bit v)
+      → entered S g bytes t left x y z ≡ bit (ltb 0 left && v)
+  entered-is p v e h = split (ltb 0 left) refl
+    where
+      split : (b : Bool) → ltb 0 left ≡ b → cond b (getD bytes (spot S g (t .x - x) (t .y - y) (t .z - z)) 0) 0 ≡ bit (b && v)
+      split true f = let k = ltb-true 0 left f in ap (λ (q : Place). getD bytes (number S (reach g q)) 0) (e k) ∙ h k
+      split false f = refl
 
-pub seed-holds : (g : Between) (seen : Place → Bool) → Inside largest (far g) → Holds g (prior seen 0) seed
-seed-holds g seen f a b ha hb = seed-at (a + 16 * b) (omega arith) ∙ ap bit (bool-ext (eqb (a + 16 * b) 0) (eqb a 0 && eqb b 0)
-    (λ t. let e = T-eq (a + 16 * b) 0 .0 t in simp (T-and, T-eq) (omega arith))
-    (λ t. let q : (a ≡ 0) × (b ≡ 0) = simp (T-and, T-eq) at t in T-eq (a + 16 * b) 0 .1 (omega arith)))
-
--- the byte one step nearer says whether there is a step left and what is seen there
-pub entered-is : (table : List ℕ) (k stride left : ℕ) (v : Bool) → (0 < left → getD table (k - stride) 0 ≡ bit v)
-    → entered table k stride left ≡ bit (ltb 0 left && v)
-entered-is table k stride left v h = split (ltb 0 left) refl
-  where
-    split : (t : Bool) → ltb 0 left ≡ t → cond t (getD table (k - stride) 0) 0 ≡ bit (t && v)
-    split true e = h (ltb-true 0 left e)
-    split false e = refl
+  -- a node one step nearer is there only if a step is left
+  pub entered-left : entered S g bytes t left x y z ≡ 1 → 0 < left
+  entered-left e = split (ltb 0 left) refl e
+    where
+      split : (b : Bool) → ltb 0 left ≡ b → cond b (getD bytes (spot S g (t .x - x) (t .y - y) (t .z - z)) 0) 0 ≡ 1 → 0 < left
+      split true f h = ltb-true 0 left f
+      split false f h = absurd (omega arith)
 
 pub ways-le : (w : Ways) (seen : Place → Bool) (t : Place) → w ≡ waysOf seen t → (w .x ≤ 1) × (w .y ≤ 1) × (w .z ≤ 1)
 ways-le w seen t e = rw e (
@@ -44,34 +45,50 @@ ways-le w seen t e = rw e (
   bit-le (ltb 0 (t .z) && seen (place (t .x) (t .y) (t .z - 1))),
 )
 
-prior-of : (seen : Place → Bool) (a b c : ℕ) → 0 < c → prior seen c a b ≡ seen (place a b (c - 1))
-prior-of seen a b zero h = absurd (omega arith)
-prior-of seen a b (suc c) h = let e : suc c - 1 ≡ c = omega arith in rw e
+-- where every node of the box has its byte
+pub ways-in : (m : Map) (g : Between) (n : ℕ) (old new : List ℕ) → Spread m g n old new → (seen : Place → Bool) → Seen m g seen
+    → (t : Place) → Within g t → t .z < n → waysIn (m .sizes) g new t ≡ waysOf seen t
+ways-in m g n old new P seen Q t w l = rw (
+  entered-is (m .sizes) g new t (t .x) 1 0 0 (place (t .x - 1) (t .y) (t .z)) (seen (place (t .x - 1) (t .y) (t .z)))
+      (λ h. place-eq (place (t .x - 1) (t .y - 0) (t .z - 0)) (place (t .x - 1) (t .y) (t .z)) refl (omega arith) (omega arith))
+      (λ h. P .at seen Q (place (t .x - 1) (t .y) (t .z)) (omega (arith, w)) l),
+  entered-is (m .sizes) g new t (t .y) 0 1 0 (place (t .x) (t .y - 1) (t .z)) (seen (place (t .x) (t .y - 1) (t .z)))
+      (λ h. place-eq (place (t .x - 0) (t .y - 1) (t .z - 0)) (place (t .x) (t .y - 1) (t .z)) (omega arith) refl (omega arith))
+      (λ h. P .at seen Q (place (t .x) (t .y - 1) (t .z)) (omega (arith, w)) l),
+  entered-is (m .sizes) g new t (t .z) 0 0 1 (place (t .x) (t .y) (t .z - 1)) (seen (place (t .x) (t .y) (t .z - 1)))
+      (λ h. place-eq (place (t .x - 0) (t .y - 0) (t .z - 1)) (place (t .x) (t .y) (t .z - 1)) (omega arith) (omega arith) refl)
+      (λ h. P .at seen Q (place (t .x) (t .y) (t .z - 1)) (omega (arith, w)) (omega arith)),
+)
 
-module _ (g : Between) (seen : Place → Bool) (old new : List ℕ)
-    (H : Holds g (prior seen (g .z .steps)) old) (K : Holds g (prior seen (g .z .steps + 1)) new) where
-  abbrev slot : ℕ
-  slot = g .x .steps + 16 * g .y .steps
+-- where each layer goes over the one before: the ways into the far corner, x and y in the last layer, z in the one before
+pub flat-ways : (S : Sizes) (g : Between) (seen : Place → Bool) (old new : List ℕ) → Holds S g (prior seen (g .z .steps)) old
+    → Holds S g (prior seen (g .z .steps + 1)) new → (w : Ways) (z : ℕ) → w ≡ waysIn S (flat g) new (far (flat g))
+    → z ≡ entered S (flat g) old (far (flat g)) (g .z .steps) 0 0 0 → record { x = w .x; y = w .y; z = z } ≡ waysOf seen (far g)
+flat-ways S g seen old new H K w z e f = rw (e, f) (rw (
+  entered-is S (flat g) new t a 1 0 0 (place (a - 1) b 0) (seen (place (a - 1) b c))
+      (λ h. place-eq (place (a - 1) (b - 0) 0) (place (a - 1) b 0) refl (omega arith) refl) (λ h. last (a - 1) b (omega arith) (omega arith)),
+  entered-is S (flat g) new t b 0 1 0 (place a (b - 1) 0) (seen (place a (b - 1) c))
+      (λ h. place-eq (place (a - 0) (b - 1) 0) (place a (b - 1) 0) (omega arith) refl refl) (λ h. last a (b - 1) (omega arith) (omega arith)),
+  entered-is S (flat g) old t c 0 0 0 (place a b 0) (seen (place a b (c - 1)))
+      (λ h. place-eq (place (a - 0) (b - 0) 0) (place a b 0) (omega arith) (omega arith) refl)
+      (λ h. H a b (omega arith) (omega arith) ∙ ap bit (prior-of c h)),
+))
+  where
+    a : ℕ
+    a = g .x .steps
 
-  -- the ways into the far corner: x and y in the last layer, z in the one before
-  pub layer-ways : (x y z : ℕ) → x ≡ entered new slot 1 (g .x .steps) → y ≡ entered new slot 16 (g .y .steps) → z ≡ entered old slot 0 (g .z .steps)
-      → record { x = x; y = y; z = z } ≡ waysOf seen (far g)
-  layer-ways x y z ex ey ez = rw (ex ∙ at-x, ey ∙ at-y, ez ∙ at-z)
-    where
-      last : (a b : ℕ) → a ≤ g .x .steps → b ≤ g .y .steps → getD new (a + 16 * b) 0 ≡ bit (seen (place a b (g .z .steps)))
-      last a b ha hb = K a b ha hb ∙ rw (add-one (g .z .steps))
+    b : ℕ
+    b = g .y .steps
 
-      at-x : entered new slot 1 (g .x .steps) ≡ bit (ltb 0 (g .x .steps) && seen (place (g .x .steps - 1) (g .y .steps) (g .z .steps)))
-      at-x = entered-is new slot 1 (g .x .steps) (seen (place (g .x .steps - 1) (g .y .steps) (g .z .steps))) λ h.
-          let e : slot - 1 ≡ (g .x .steps - 1) + 16 * g .y .steps = omega arith in
-          rw e (last (g .x .steps - 1) (g .y .steps) (omega arith) (omega arith))
+    c : ℕ
+    c = g .z .steps
 
-      at-y : entered new slot 16 (g .y .steps) ≡ bit (ltb 0 (g .y .steps) && seen (place (g .x .steps) (g .y .steps - 1) (g .z .steps)))
-      at-y = entered-is new slot 16 (g .y .steps) (seen (place (g .x .steps) (g .y .steps - 1) (g .z .steps))) λ h.
-          let e : slot - 16 ≡ g .x .steps + 16 * (g .y .steps - 1) = omega arith in
-          rw e (last (g .x .steps) (g .y .steps - 1) (omega arith) (omega arith))
+    t : Place
+    t = far (flat g)
 
-      at-z : entered old slot 0 (g .z .steps) ≡ bit (ltb 0 (g .z .steps) && seen (place (g .x .steps) (g .y .steps) (g .z .steps - 1)))
-      at-z = entered-is old slot 0 (g .z .steps) (seen (place (g .x .steps) (g .y .steps) (g .z .steps - 1))) λ h.
-          let e : slot - 0 ≡ slot = omega arith in
-          rw e (H (g .x .steps) (g .y .steps) (omega arith) (omega arith) ∙ ap bit (prior-of seen (g .x .steps) (g .y .steps) (g .z .steps) h))
+    last : (i j : ℕ) → i ≤ a → j ≤ b → getD new (spot S (flat g) i j 0) 0 ≡ bit (seen (place i j c))
+    last i j hi hj = K i j hi hj ∙ rw (add-one c)
+
+    prior-of : (k : ℕ) → 0 < k → prior seen k a b ≡ seen (place a b (k - 1))
+    prior-of zero h = absurd (omega arith)
+    prior-of (suc k) h = let e : suc k - 1 ≡ k = omega arith in rw e

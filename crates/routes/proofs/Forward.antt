@@ -20,7 +20,7 @@ use Rattle.routes.specs.Box.{between, reach, far, Within}
 use Rattle.routes.specs.Sweep.{entry, Seen}
 use Rattle.routes.proofs.Box.{held, reach-in}
 use Rattle.routes.proofs.Runs.{runOn, origin, on-put, put-put, within-on, within-put, reach-first, reach-far, reach-eq, lies-on, lies-on-not, put-on}
-use Rattle.routes.proofs.Differences.{lies, preferred-along, preferred-read, preferred-next, same-iff}
+use Rattle.routes.proofs.Differences.{at-eq, lies, preferred-along, preferred-read, preferred-next, same-iff}
 use Rattle.routes.proofs.Paths.{mayHop-iff, leads-iff}
 use Rattle.routes.proofs.Reached.{start-reached, reached-on, reached-iff}
 use Rattle.routes.proofs.Backward.{linked-to}
@@ -53,9 +53,6 @@ module _ (m : Map) (s e : Place) (s-in : Inside (m .sizes) s) (e-in : Inside (m 
       let z : on t a < runOn g a .steps = ltb→lt (on t a) (runOn g a .steps) (rw (lies-on s e t w a) at l′) in
       (a, z, at-eq (sym h ∙ ap (next (m .sizes) (reach g t)) (k ∙ ap (along a) f) ∙ step-on t w a z))
     where
-      at-eq : {p q : Place} → At p ≡ At q → p ≡ q
-      at-eq h = cc
-
       runs : (a : Axis) (d o : Bool) → lies (not o) (on (reach g t) a) (on e a) ≡ false → T (lies d (on (reach g t) a) (on e a))
           → (d ≡ o) × T (lies o (on (reach g t) a) (on e a))
       runs a true true f l = (refl, l)

@@ -21,6 +21,7 @@ use Rattle.mesh.specs.declared.Place.{Place}
 use Rattle.mesh.specs.declared.Next.the-variants.{At}
 use Rattle.routes.specs.Differences.{preferred, same, notBehind, aheadOrLevel}
 use Rattle.routes.specs.Paths.{mayEnter, Leads, stay, hop, Path}
+use Rattle.routes.proofs.Runs.{on-put}
 use Rattle.routes.proofs.Differences.{lies, preferred-read, same-iff}
 use Rattle.routes.proofs.Paths.{mayHop-iff}
 
@@ -72,11 +73,6 @@ still : (S : Sizes) (o : ℕ) (p e : Place) (a : Axis) (c : ℕ) → ((b : Axis)
 still S o p e X c f t = elim [ X ↦ λ _. t | Y ↦ f Y | Z ↦ f Z ]
 still S o p e Y c f t = elim [ X ↦ f X | Y ↦ λ _. t | Z ↦ f Z ]
 still S o p e Z c f t = elim [ X ↦ f X | Y ↦ f Y | Z ↦ λ _. t ]
-
-on-put : (a : Axis) (p : Place) (c : ℕ) → on (put a p c) a ≡ c
-on-put X p c = refl
-on-put Y p c = refl
-on-put Z p c = refl
 
 module _ (m : Map) (o : ℕ) (e : Place) (k : Inside (m .sizes) e) where
   -- a preferred step towards a node that is not behind goes ahead, and leaves it not behind

@@ -2,6 +2,7 @@ pub mod Differences
 pub mod Box
 pub mod Runs
 pub mod Rows
+pub mod Layers
 pub mod Entered
 pub mod Backward
 pub mod Forward
@@ -10,7 +11,6 @@ pub mod Ends
 pub mod Following
 pub mod Trails
 pub mod Routing
-pub mod Showing
 pub mod Spreading
 pub mod Paths
 pub mod Walks

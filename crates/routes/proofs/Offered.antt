@@ -111,12 +111,13 @@ lowest-is (suc n) t j h y = split (t 0) refl (lowest-is n λ k. t (suc k))
         let r = g k l z in
         record { passes = r .passes; small = omega arith; none = none (lowest n (λ k. t (suc k))) f (r .none) }
 
-pub least-same : (t : ℕ → Bool) (j k : ℕ) → ((i : ℕ) → i < j → T (t i) → ⊥) → T (t j) → ((i : ℕ) → i < k → T (t i) → ⊥) → T (t k) → j ≡ k
-least-same t j k nj tj nk tk = split (ltb j k) refl (ltb k j) refl
+-- the lowest is one
+pub least-one : (B : ℕ → Type 0) (j k : ℕ) → ((i : ℕ) → i < j → B i → ⊥) → B j → ((i : ℕ) → i < k → B i → ⊥) → B k → j ≡ k
+least-one B j k nj bj nk bk = split (ltb j k) refl (ltb k j) refl
   where
-    split : (b : Bool) → ltb j k ≡ b → (c : Bool) → ltb k j ≡ c → j ≡ k
-    split true f c g = absurd (nk j (ltb-true j k f) tj)
-    split false f true g = absurd (nj k (ltb-true k j g) tk)
+    split : (t : Bool) → ltb j k ≡ t → (u : Bool) → ltb k j ≡ u → j ≡ k
+    split true f u g = absurd (nk j (ltb-true j k f) bj)
+    split false f true g = absurd (nj k (ltb-true k j g) bk)
     split false f false g = omega (arith, ltb-false j k f, ltb-false k j g)
 
 -- ---- the route
@@ -181,7 +182,7 @@ module _ (m : Map) (e : Place) where
   lowest-only (ends f) (takes j t n h L) = absurd (end-offers-none m e j (rw f at t))
   lowest-only (takes j t n h L) (ends g) = absurd (end-offers-none m e j (rw g at t))
   lowest-only {p} (takes {r = r} j t n h L) (takes {r = r′} j′ t′ n′ h′ L′) =
-      let f : j ≡ j′ = least-same (offers m e p) j j′ n t n′ t′ in
+      let f : j ≡ j′ = least-one (λ i. T (offers m e p i)) j j′ n t n′ t′ in
       let g : r ≡ r′ = cc in
       ap (_∷_ (number (m .sizes) p)) (lowest-only (rw g at L) L′)
 

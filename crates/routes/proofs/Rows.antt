@@ -1,123 +1,90 @@
 -- The sweep, row by row and layer by layer: what a row leaves in the bytes is what is seen from the corner. Assumes nothing.
-use mathlib.Core.Path.{_≡_, refl, sym, ap, _∙_}
-use mathlib.Core.Logic.{_⊎_, inl, inr}
+use mathlib.Core.Path.{_≡_, refl, sym, ap, _∙_, subst}
+use mathlib.Core.Logic.{inl, inr}
 use mathlib.Core.Bool.{Bool, true, false, cond, _&&_, _||_}
 use mathlib.Core.List.{List}
 use Prim.Native.Nat.{ℕ, zero, suc, _+_, _-_, _*_, _<_, _≤_}
 use native.Mathlib.Nat.{eq-or-lt-of-le, le-of-suc-le-suc}
-use native.Mathlib.Numerals.{add-one}
 use native.Mathlib.Omega.{arith}
-use lib.ListN.{length, getD, set}
+use lib.ListN.{length, getD, set, length-set}
 use lib.Seq.{getD-set-same, getD-set-other}
 use lib.Dec.{ltb, eqb}
 use borrow.Author.Tests.{ltb-true, ltb-false, lt-ltb, le-ltb, eqb-true, eqb-false, ne-eqb}
 use Rattle.mesh.specs.Tools.{bit}
 use Rattle.mesh.specs.Mesh.{place, nodes, number}
-use Rattle.mesh.specs.Cells.{Map, cellAt, mayPass}
+use Rattle.mesh.specs.Cells.{mayPass}
 use Rattle.mesh.proofs.Bits.{bit-and, bit-or}
-use Rattle.mesh.proofs.Numbers.{number-lt}
+use Rattle.mesh.proofs.Numbers.{number-lt, nodes-le}
 use Rattle.mesh.specs.declared.Sizes.{Sizes}
 use Rattle.mesh.specs.declared.Place.{Place}
 use Rattle.routes.specs.Box.{gone, reach, rowRun, Within, OnAxis, Held}
-use Rattle.routes.specs.Sweep.{entry, Seen, Holds, prior, partly, joined, leading, Row, rowFrom, Layer, Layers}
-use Rattle.routes.proofs.Box.{reach-in}
+use Rattle.routes.specs.Sweep.{spot, joined, beside, Beside, Rows, leading, Row, Room, Laid, Wave, Layer}
+use Rattle.routes.proofs.Box.{reach-in, gone-same, node-same, widen}
 use Rattle.routes.specs.declared.Run.{Run}
 use Rattle.routes.specs.declared.Between.{Between}
 
 -- ---- a row
 
-pub row-none : (cells old : List ℕ) (r : Run) (b from : ℕ) → Row cells old old r b from from
-row-none cells old r b from = record { done = λ a h l. absurd (omega arith); kept = λ i h. refl }
+-- the byte beside place a of row r
+pub beside-at : (r : Run) (y n k a : ℕ) → OnAxis r n → OnAxis (beside r y) k → a ≤ r .steps
+    → (r .from ≤ gone r a + y) × (gone r a + y - r .from ≡ gone (beside r y) a)
+beside-at r y n k a o o′ h = split (r .down) refl
+  where
+    split : (d : Bool) → r .down ≡ d → (r .from ≤ cond d (r .from - a) (r .from + a) + y) × (cond d (r .from - a) (r .from + a) + y - r .from ≡ cond d (y - a) (y + a))
+    split true e = omega (arith, o .low e, o′ .low e)
+    split false e = omega arith
 
-pub leading-first : (layer : List ℕ) (b from : ℕ) → from ≡ leading layer b from from
-leading-first layer b from = rw (le-ltb from from (omega arith))
+pub row-none : (cells old : List ℕ) (r : Run) (base y z from : ℕ) → Row cells old old r base y z from from
+row-none cells old r base y z from = record { done = λ a h l. absurd (omega arith); kept = λ i h. refl; size = refl }
 
-module _ (cells old new : List ℕ) (r : Run) (b from a : ℕ) (R : Row cells old new r b from a) (h : from ≤ a) where
-  -- the places that are still to come are as they were
-  ahead-kept : getD new (a + 16 * b) 0 ≡ getD old (a + 16 * b) 0
-  ahead-kept = R .kept (a + 16 * b) (λ i k l e. omega arith)
+pub leading-first : (bytes : List ℕ) (r : Run) (from : ℕ) → from ≡ leading bytes r from from
+leading-first bytes r from = rw (le-ltb from from (omega arith))
 
-  before-kept : a < 16 → getD new (a + 16 * (b - 1)) 0 ≡ getD old (a + 16 * (b - 1)) 0
-  before-kept s = R .kept (a + 16 * (b - 1)) (λ i k l e. omega arith)
+module _ (cells old new : List ℕ) (r : Run) (base y z from a : ℕ) (R : Row cells old new r base y z from a) (h : from ≤ a) (l : a ≤ r .steps)
+    (B : Rows cells old r base y z) where
+  apart : (i : ℕ) → i < a → gone r i ≡ gone r a → ⊥
+  apart i k e = omega (arith, gone-same r 4096 (B .small) i a (omega arith) l e)
 
-  leading-set : (v i : ℕ) → i ≤ a → leading (set new (a + 16 * b) v) b from i ≡ leading new b from i
-  leading-set v i l = split (ltb from i) refl
+  -- the bytes beside it are as they were
+  beside-kept : (x : ℕ) → Beside old r x → getD new (gone (beside r x) a) 0 ≡ getD old (gone (beside r x) a) 0
+  beside-kept x b = R .kept (gone (beside r x) a) (λ i f k e. b .fresh a i l k e)
+
+  leading-set : (v i : ℕ) → i ≤ a → leading (set new (gone r a) v) r from i ≡ leading new r from i
+  leading-set v i k = split (ltb from i) refl
     where
-      split : (t : Bool) → ltb from i ≡ t → cond t (getD (set new (a + 16 * b) v) (i - 1 + 16 * b) 0) from ≡ cond t (getD new (i - 1 + 16 * b) 0) from
-      split true e = getD-set-other new (a + 16 * b) (i - 1 + 16 * b) v 0 (λ q. omega (arith, ltb-true from i e))
+      split : (t : Bool) → ltb from i ≡ t → cond t (getD (set new (gone r a) v) (gone r (i - 1)) 0) from ≡ cond t (getD new (gone r (i - 1)) 0) from
+      split true e = getD-set-other new (gone r a) (gone r (i - 1)) v 0 (apart (i - 1) (omega (arith, ltb-true from i e)))
       split false e = refl
 
-  pub leading-next : (v : ℕ) → a + 16 * b < length new → v ≡ leading (set new (a + 16 * b) v) b from (a + 1)
-  leading-next v l =
+  pub leading-next : (v : ℕ) → gone r a < length new → v ≡ leading (set new (gone r a) v) r from (a + 1)
+  leading-next v k =
       let e : a + 1 - 1 ≡ a = omega arith in
-      rw (lt-ltb from (a + 1) (omega arith), e) (sym (getD-set-same new (a + 16 * b) v 0 l))
+      rw (lt-ltb from (a + 1) (omega arith), e) (sym (getD-set-same new (gone r a) v 0 k))
 
-  pub row-more : (v : ℕ) → a < 16 → a + 16 * b < length new
-      → v ≡ joined (mayPass (getD cells (gone r a) 0)) (getD new (a + 16 * (b - 1)) 0) (getD new (a + 16 * b) 0) (leading new b from a)
-      → Row cells old (set new (a + 16 * b) v) r b from (a + 1)
-  row-more v l16 len e = record {
-    done = λ i k l. elim (eq-or-lt-of-le (le-of i l)) [
+  pub row-more : (v : ℕ) → gone r a < length new
+      → v ≡ joined (mayPass (getD cells (base + gone r a) 0)) (getD new (gone (beside r y) a) 0) (getD new (gone (beside r z) a) 0) (leading new r from a)
+      → Row cells old (set new (gone r a) v) r base y z from (a + 1)
+  row-more v len e = record {
+    done = λ i k n. elim (eq-or-lt-of-le (le-of i n)) [
       | inl q ↦ rw q here
-      | inr q ↦ getD-set-other new (a + 16 * b) (i + 16 * b) v 0 (λ z. omega arith) ∙ R .done i k q ∙ rw (leading-set v i (le-of i l))
+      | inr q ↦ getD-set-other new (gone r a) (gone r i) v 0 (apart i q) ∙ R .done i k q ∙ rw (leading-set v i (le-of i n))
     ];
-    kept = λ i k. getD-set-other new (a + 16 * b) i v 0 (λ q. k a h (omega arith) q) ∙ R .kept i (λ j p q. k j p (omega arith));
+    kept = λ i k. getD-set-other new (gone r a) i v 0 (λ q. k a h (omega arith) q) ∙ R .kept i (λ j p q. k j p (omega arith));
+    size = length-set new (gone r a) v ∙ R .size;
   }
     where
       le-of : (i : ℕ) → i < a + 1 → i ≤ a
-      le-of i l = omega arith
+      le-of i n = omega arith
 
-      here : getD (set new (a + 16 * b) v) (a + 16 * b) 0
-          ≡ joined (mayPass (getD cells (gone r a) 0)) (getD old (a + 16 * (b - 1)) 0) (getD old (a + 16 * b) 0) (leading (set new (a + 16 * b) v) b from a)
-      here = getD-set-same new (a + 16 * b) v 0 len ∙ e ∙ rw (ahead-kept, before-kept l16, leading-set v a (omega arith))
+      here : getD (set new (gone r a) v) (gone r a) 0
+          ≡ joined (mayPass (getD cells (base + gone r a) 0)) (getD old (gone (beside r y) a) 0) (getD old (gone (beside r z) a) 0) (leading (set new (gone r a) v) r from a)
+      here = getD-set-same new (gone r a) v 0 len ∙ e ∙ rw (beside-kept y (B .y-row), beside-kept z (B .z-row), leading-set v a (omega arith))
 
--- ---- the bytes of a row
+-- ---- the rows of a box
 
--- bytes that are 0 or 1, joined
-joined-bits : (ok y z x : Bool) → joined ok (bit y) (bit z) (bit x) ≡ bit (ok && (y || z || x))
-joined-bits ok y z x = rw (bit-or y z, bit-or (y || z) x) (bit-and ok (y || z || x))
-
-or-turn : (x y z : Bool) → y || z || x ≡ x || y || z
-or-turn true true z = refl
-or-turn true false true = refl
-or-turn true false false = refl
-or-turn false true z = refl
-or-turn false false true = refl
-or-turn false false false = refl
-
-or-again : (x z : Bool) → z || z || x ≡ x || false || z
-or-again true true = refl
-or-again true false = refl
-or-again false true = refl
-or-again false false = refl
-
-module _ (seen : Place → Bool) (a b c : ℕ) (off : (a + b) + c ≡ 0 → ⊥) where
-  -- what is entered from the layer before
-  prior-is : prior seen c a b ≡ (ltb 0 c && seen (place a b (c - 1)))
-  prior-is = split c off
-    where
-      split : (k : ℕ) → ((a + b) + k ≡ 0 → ⊥) → prior seen k a b ≡ (ltb 0 k && seen (place a b (k - 1)))
-      split zero o = none a b o
-        where
-          none : (a b : ℕ) → ((a + b) + 0 ≡ 0 → ⊥) → (eqb a 0 && eqb b 0) ≡ false
-          none zero zero o = absurd (o refl)
-          none zero (suc b) o = ne-eqb (suc b) 0 (λ e. omega arith)
-          none (suc a) b o = rw (ne-eqb (suc a) 0 (λ e. omega arith))
-      split (suc k) o = let e : suc k - 1 ≡ k = omega arith in rw (lt-ltb 0 (suc k) (omega arith), e)
-
-  -- what the three bytes say together: row 0 has no row before it, and reads the layer before twice
-  entry-is : (partly seen c b a (b - 1) || prior seen c a b || (ltb 0 a && seen (place (a - 1) b c))) ≡ entry seen (place a b c)
-  entry-is = split b prior-is
-    where
-      split : (k : ℕ) → prior seen c a k ≡ (ltb 0 c && seen (place a k (c - 1)))
-          → (partly seen c k a (k - 1) || prior seen c a k || (ltb 0 a && seen (place (a - 1) k c))) ≡ entry seen (place a k c)
-      split zero e = rw e (or-again (ltb 0 a && seen (place (a - 1) 0 c)) (ltb 0 c && seen (place a 0 (c - 1))))
-      split (suc k) e =
-          let f : suc k - 1 ≡ k = omega arith in
-          rw (e, lt-ltb (suc k - 1) (suc k) (omega arith), f, lt-ltb 0 (suc k) (omega arith)) (or-turn (ltb 0 a && seen (place (a - 1) (suc k) c)) (seen (place a k c)) (ltb 0 c && seen (place a (suc k) (c - 1))))
-
-module _ (S : Sizes) (g : Between) (b c : ℕ) (h : Held S g) where
-  pub gone-row : (a : ℕ) → a ≤ g .x .steps → gone (rowRun S g b c) a ≡ number S (reach g (place a b c))
-  gone-row a l = split (g .x .down) refl
+module _ (S : Sizes) (g : Between) (h : Held S g) where
+  pub gone-row : (a b c : ℕ) → a ≤ g .x .steps → gone (rowRun S g b c) a ≡ spot S g a b c
+  gone-row a b c l = split (g .x .down) refl
     where
       rest : ℕ
       rest = S .w * (gone (g .y) b + S .h * gone (g .z) c)
@@ -127,109 +94,242 @@ module _ (S : Sizes) (g : Between) (b c : ℕ) (h : Held S g) where
       split true e = omega (arith, h .x-on .low e)
       split false e = omega arith
 
-  pub row-on : b ≤ g .y .steps → c ≤ g .z .steps → OnAxis (rowRun S g b c) (nodes S)
-  row-on hb hc =
-      let at : (a : ℕ) → a ≤ g .x .steps → number S (reach g (place a b c)) < nodes S
-      = λ a l. number-lt S (reach g (place a b c)) (reach-in S g (place a b c) h (record { x-le = l; y-le = hb; z-le = hc })) in
+  -- bytes that stand for different nodes stand apart
+  pub spot-same : (a b c a′ b′ c′ : ℕ) → Within g (place a b c) → Within g (place a′ b′ c′) → spot S g a b c ≡ spot S g a′ b′ c′ → (a ≡ a′) × (b ≡ b′) × (c ≡ c′)
+  spot-same a b c a′ b′ c′ w w′ e =
+      let q = node-same S g h (place a b c) (place a′ b′ c′) w w′ e in
+      (ap (λ (t : Place). t .x) q, ap (λ (t : Place). t .y) q, ap (λ (t : Place). t .z) q)
+
+  -- a row stays where its nodes stand
+  pub row-on : (n b c : ℕ) → b ≤ g .y .steps → c ≤ g .z .steps → ((t : Place) → Within g t → number S (reach g t) < n) → OnAxis (rowRun S g b c) n
+  row-on n b c hb hc fits =
+      let at : (a : ℕ) → a ≤ g .x .steps → spot S g a b c < n
+      = λ a l. fits (place a b c) (record { x-le = l; y-le = hb; z-le = hc }) in
       record {
         starts = at 0 (omega arith);
         low = λ e. rw e (omega (arith, h .x-on .low e));
         high = λ e.
-            let k : gone (rowRun S g b c) (g .x .steps) < nodes S = rw (gone-row (g .x .steps) (omega arith)) (at (g .x .steps) (omega arith)) in
+            let k : gone (rowRun S g b c) (g .x .steps) < n = rw (gone-row (g .x .steps) b c (omega arith)) (at (g .x .steps) (omega arith)) in
             rw e (rw e at k);
       }
 
--- the very first row starts after the corner, every other at its first node
-from-of : (b c : ℕ) → ((b + c ≡ 0) × (rowFrom b c ≡ 1)) ⊎ ((b + c ≡ 0 → ⊥) × (rowFrom b c ≡ 0))
-from-of b c = split (eqb (b + c) 0) refl
+-- ---- a layer
+
+-- the row before row b of layer k: row 0 has none, and the layer behind stands for it; the very first row starts after the corner
+abbrev pub layerOf : ℕ → ℕ → ℕ → ℕ
+layerOf b k behind = cond (eqb b 0) behind k
+
+abbrev pub fromOf : ℕ → ℕ → ℕ
+fromOf first b = cond (eqb b 0) first 0
+
+pub layer-of : (b k behind n : ℕ) → k ≤ n → behind ≤ n → layerOf b k behind ≤ n
+layer-of b k behind n h l = split (eqb b 0)
   where
-    split : (t : Bool) → eqb (b + c) 0 ≡ t → ((b + c ≡ 0) × (bit t ≡ 1)) ⊎ ((b + c ≡ 0 → ⊥) × (bit t ≡ 0))
-    split true e = inl (eqb-true (b + c) 0 e, refl)
-    split false e = inr (eqb-false (b + c) 0 e, refl)
+    split : (t : Bool) → cond t behind k ≤ n
+    split true = l
+    split false = h
 
-first-prior : (seen : Place → Bool) (a b c : ℕ) → (a + b) + c ≡ 0 → prior seen c a b ≡ true
-first-prior seen a b c z =
-    let ea : a ≡ 0 = omega arith in
-    let eb : b ≡ 0 = omega arith in
-    let ec : c ≡ 0 = omega arith in
-    rw (ea, eb, ec)
+pub from-le : (first b : ℕ) → first ≤ 1 → fromOf first b ≤ 1
+from-le first b h = split (eqb b 0)
+  where
+    split : (t : Bool) → cond t first 0 ≤ 1
+    split true = h
+    split false = omega arith
 
-module _ (m : Map) (g : Between) (b c : ℕ) (hb : b ≤ g .y .steps) (hc : c ≤ g .z .steps) (h : Held (m .sizes) g) (small : g .x .steps < 16)
-    (old new : List ℕ) (R : Row (m .cells) old new (rowRun (m .sizes) g b c) b (rowFrom b c) (g .x .steps + 1))
-    (seen : Place → Bool) (Q : Seen m g seen) (H : Holds g (partly seen c b) old) where
-  -- row b as it was is the layer before
-  old-here : (a : ℕ) → a ≤ g .x .steps → getD old (a + 16 * b) 0 ≡ bit (prior seen c a b)
-  old-here a l = H a b l hb ∙ rw (le-ltb b b (omega arith))
+from-one : (first b : ℕ) → 1 ≤ fromOf first b → first ≤ 1 → (first ≡ 1) × (b ≡ 0) × (fromOf first b ≡ 1)
+from-one first b h l = split (eqb b 0) refl h
+  where
+    split : (t : Bool) → eqb b 0 ≡ t → 1 ≤ cond t first 0 → (first ≡ 1) × (b ≡ 0) × (cond t first 0 ≡ 1)
+    split true e k = (omega arith, eqb-true b 0 e, omega arith)
+    split false e k = absurd (omega arith)
 
-  old-before : (a : ℕ) → a ≤ g .x .steps → getD old (a + 16 * (b - 1)) 0 ≡ bit (partly seen c b a (b - 1))
-  old-before a l = H a (b - 1) l (omega arith)
+pub from-first : (first : ℕ) → first ≡ fromOf first 0
+from-first first = refl
 
-  corner-is : (a : ℕ) → (a + b) + c ≡ 0 → seen (place a b c) ≡ true
-  corner-is a z =
-      let ea : a ≡ 0 = omega arith in
-      let eb : b ≡ 0 = omega arith in
-      let ec : c ≡ 0 = omega arith in
-      rw (ea, eb, ec) (Q .corner)
+pub from-next : (first b : ℕ) → 0 ≡ fromOf first (b + 1)
+from-next first b = rw (ne-eqb (b + 1) 0 (λ e. omega arith))
 
-  -- the byte before place a
-  led : (a : ℕ) → rowFrom b c ≤ a → ((i : ℕ) → i < a → getD new (i + 16 * b) 0 ≡ bit (seen (place i b c)))
-      → leading new b (rowFrom b c) a ≡ bit (ltb 0 a && seen (place (a - 1) b c))
-  led a l ih = split (ltb (rowFrom b c) a) refl
+pub row-next : (S : Sizes) (g : Between) (r : Run) (b k behind : ℕ) → r ≡ rowRun S g b k → r .from ≡ spot S g 0 (b + 1 - 1) (layerOf (b + 1) k behind)
+row-next S g r b k behind e = let i : b + 1 - 1 ≡ b = omega arith in rw (e, i, ne-eqb (b + 1) 0 (λ q. omega arith))
+
+module _ (S : Sizes) (cells bytes : List ℕ) (g : Between) (base k behind : ℕ) (L : Laid S cells bytes g base k behind) where
+  small : (t : Place) → Within g t → number S (reach g t) < 4096
+  small t w = omega (arith, number-lt S (reach g t) (reach-in S g t (L .room .held) w), nodes-le S (L .room .sized))
+
+  beside-of : (mid : List ℕ) → length mid ≡ length bytes → (b b′ k′ : ℕ) → b ≤ g .y .steps → b′ ≤ g .y .steps → k′ ≤ g .z .steps
+      → Beside mid (rowRun S g b k) (spot S g 0 b′ k′)
+  beside-of mid e b b′ k′ hb hb′ hk′ =
+      let h = L .room .held in
+      record {
+        on = row-on S g h (length mid) b′ k′ hb′ hk′ (λ t w. rw e (L .room .fits t w));
+        small = small (place 0 b′ k′) (record { x-le = omega arith; y-le = hb′; z-le = hk′ });
+        fresh = λ i j hi l q. omega (
+          arith,
+          spot-same S g h i b′ k′ j b k (record { x-le = hi; y-le = hb′; z-le = hk′ }) (record { x-le = less i j l hi; y-le = hb; z-le = L .here })
+              (sym (gone-row S g h i b′ k′ hi) ∙ q ∙ gone-row S g h j b k (less i j l hi)),
+        );
+      }
     where
-      split : (t : Bool) → ltb (rowFrom b c) a ≡ t → cond t (getD new (a - 1 + 16 * b) 0) (rowFrom b c) ≡ bit (ltb 0 a && seen (place (a - 1) b c))
-      split true e = let k : 0 < a = omega (arith, ltb-true (rowFrom b c) a e) in rw (lt-ltb 0 a k) (ih (a - 1) (omega arith))
-      split false e = let k : a ≤ rowFrom b c = ltb-false (rowFrom b c) a e in elim (from-of b c) [
-        | inl f ↦ rw (f .1, lt-ltb 0 a (omega (arith, f .1)), corner-is (a - 1) (omega (arith, f .0, f .1)))
-        | inr f ↦ rw (f .1, le-ltb 0 a (omega (arith, f .1)))
-      ]
+      less : (i j : ℕ) → j < i → i ≤ g .x .steps → j ≤ g .x .steps
+      less i j l h = omega arith
 
-  here : (a : ℕ) → a ≤ g .x .steps → rowFrom b c ≤ a → ((a + b) + c ≡ 0 → ⊥)
-      → ((i : ℕ) → i < a → getD new (i + 16 * b) 0 ≡ bit (seen (place i b c))) → getD new (a + 16 * b) 0 ≡ bit (seen (place a b c))
-  here a l f off ih =
-      let t : Place = place a b c in
-      let w : Within g t = record { x-le = l; y-le = hb; z-le = hc } in
-      let q = Q .later t w (λ e. off (omega (arith, ap (λ (t : Place). t .x) e, ap (λ (t : Place). t .y) e, ap (λ (t : Place). t .z) e))) in
-      R .done a f (omega arith)
-      ∙ rw (gone-row (m .sizes) g b c h a l, old-before a l, old-here a l, led a f ih)
-      (joined-bits (mayPass (cellAt m (reach g t))) (partly seen c b a (b - 1)) (prior seen c a b) (ltb 0 a && seen (place (a - 1) b c))
-      ∙ ap bit (ap (λ (v : Bool). mayPass (cellAt m (reach g t)) && v) (entry-is seen a b c off) ∙ sym q))
+  -- every row may be written
+  pub rows-of : (mid : List ℕ) → length mid ≡ length bytes → (b : ℕ) → b ≤ g .y .steps
+      → Rows cells mid (rowRun S g b k) base (spot S g 0 (b - 1) (layerOf b k behind)) (spot S g 0 b behind)
+  rows-of mid e b hb =
+      let h = L .room .held in
+      record {
+        on = row-on S g h (length mid) b k hb (L .here) (λ t w. rw e (L .room .fits t w));
+        small = row-on S g h 4096 b k hb (L .here) small;
+        celled = λ a l. rw (gone-row S g h a b k l) (L .celled a b l hb);
+        y-row = beside-of mid e b (b - 1) (layerOf b k behind) hb (omega arith) (layer-of b k behind (g .z .steps) (L .here) (L .back));
+        z-row = beside-of mid e b b behind hb hb (L .back);
+      }
 
-  row-at : (n : ℕ) → n ≤ g .x .steps → ((i : ℕ) → i < n → getD new (i + 16 * b) 0 ≡ bit (seen (place i b c)))
-      → getD new (n + 16 * b) 0 ≡ bit (seen (place n b c))
-  row-at n l ih = split (eqb ((n + b) + c) 0) refl
+-- bytes that are 0 or 1, joined
+joined-bits : (ok y z x : Bool) → joined ok (bit y) (bit z) (bit x) ≡ bit (ok && (y || z || x))
+joined-bits ok y z x = rw (bit-or y z, bit-or (y || z) x) (bit-and ok (y || z || x))
+
+-- what the three bytes say together: row 0 reads the layer behind twice
+or-turn : (b : ℕ) (x y z : Bool) → (cond (eqb b 0) z y || z || x) ≡ (x || (ltb 0 b && y) || z)
+or-turn zero true y true = refl
+or-turn zero true y false = refl
+or-turn zero false y true = refl
+or-turn zero false y false = refl
+or-turn (suc b) x y z = rw (ne-eqb (suc b) 0 (λ e. omega arith), lt-ltb 0 (suc b) (omega arith)) (three x y z)
+  where
+    three : (x y z : Bool) → (y || z || x) ≡ (x || y || z)
+    three true true z = refl
+    three true false true = refl
+    three true false false = refl
+    three false true z = refl
+    three false false true = refl
+    three false false false = refl
+
+pub layer-none : (S : Sizes) (cells old : List ℕ) (g : Between) (base k behind first : ℕ) → Layer S cells old old g base k behind first 0
+layer-none S cells old g base k behind first = record { at = λ prev this W a b la l lb. absurd (omega arith); kept = λ i h. refl; size = refl }
+
+module _ (S : Sizes) (cells old mid new : List ℕ) (g : Between) (base k behind first b : ℕ) (L : Laid S cells old g base k behind) (hf : first ≤ 1)
+    (hb : b ≤ g .y .steps) (P : Layer S cells old mid g base k behind first b)
+    (R : Row cells mid new (rowRun S g b k) base (spot S g 0 (b - 1) (layerOf b k behind)) (spot S g 0 b behind) (fromOf first b) (g .x .steps + 1)) where
+  held : Held S g
+  held = L .room .held
+
+  here : (a i : ℕ) → a ≤ g .x .steps → i ≤ g .y .steps → Within g (place a i k)
+  here a i la li = record { x-le = la; y-le = li; z-le = L .here }
+
+  -- the rows before it are as they were
+  row-kept : (a i : ℕ) → a ≤ g .x .steps → i ≤ g .y .steps → (i ≡ b → ⊥) → getD new (spot S g a i k) 0 ≡ getD mid (spot S g a i k) 0
+  row-kept a i la li ne = R .kept (spot S g a i k)
+      (λ j f l e. ne (spot-same S g held a i k j b k (here a i la li) (here j b (le-of j l) hb) (e ∙ gone-row S g held j b k (le-of j l)) .1))
     where
-      split : (t : Bool) → eqb ((n + b) + c) 0 ≡ t → getD new (n + 16 * b) 0 ≡ bit (seen (place n b c))
-      split true e =
-          let z : (n + b) + c ≡ 0 = eqb-true ((n + b) + c) 0 e in
-          R .kept (n + 16 * b) (λ a f k q. elim (from-of b c) [ inl u ↦ omega (arith, u .1) | inr u ↦ u .0 (omega arith) ])
-          ∙ old-here n l ∙ ap bit (first-prior seen n b c z ∙ sym (corner-is n z))
-      split false e =
-          let off = eqb-false ((n + b) + c) 0 e in
-          here n l (elim (from-of b c) [ inl u ↦ omega (arith, u .0, u .1) | inr u ↦ omega (arith, u .1) ]) off ih
+      le-of : (j : ℕ) → j < g .x .steps + 1 → j ≤ g .x .steps
+      le-of j l = omega arith
 
-  at-row : (n : ℕ) → n ≤ g .x .steps + 1 → (a : ℕ) → a < n → getD new (a + 16 * b) 0 ≡ bit (seen (place a b c))
-  at-row zero l a k = absurd (omega arith)
-  at-row (suc n) l a k =
-      let ih = at-row n (omega arith) in
-      elim (eq-or-lt-of-le (le-of-suc-le-suc k)) [ inl e ↦ rw e (row-at n (omega arith) ih) | inr q ↦ ih a q ]
+  module _ (prev this : ℕ → ℕ → Bool) (W : Wave S cells old g base k behind first prev this) where
+    z-byte : (a : ℕ) → a ≤ g .x .steps → getD mid (spot S g a b behind) 0 ≡ bit (prev a b)
+    z-byte a l = P .kept (spot S g a b behind)
+        (λ j i lj li hi e. omega (arith, spot-same S g held a b behind j i k (record { x-le = l; y-le = hb; z-le = L .back }) (here j i lj hi) e))
+        ∙ W .before a b l hb
 
-  -- the rows before and after it are as they were
-  pub line-holds : Holds g (partly seen c (b + 1)) new
-  line-holds a r la lr = split (ltb r b) refl (ltb b r) refl
+    y-byte : (a : ℕ) → a ≤ g .x .steps → getD mid (spot S g a (b - 1) (layerOf b k behind)) 0 ≡ bit (cond (eqb b 0) (prev a b) (this a (b - 1)))
+    y-byte a l = split (eqb b 0) refl
+      where
+        split : (t : Bool) → eqb b 0 ≡ t → getD mid (spot S g a (b - 1) (cond t behind k)) 0 ≡ bit (cond t (prev a b) (this a (b - 1)))
+        split true e =
+            let z : b - 1 ≡ b = omega (arith, eqb-true b 0 e) in
+            ap (λ (i : ℕ). getD mid (spot S g a i behind) 0) z ∙ z-byte a l
+        split false e = let n = eqb-false b 0 e in P .at prev this W a (b - 1) l (pred n) (omega arith)
+          where
+            pred : (b ≡ 0 → ⊥) → b - 1 < b
+            pred n = omega arith
+
+    corner : (a : ℕ) → first ≡ 1 → a + b ≡ 0 → getD new (spot S g a b k) 0 ≡ bit (this a b)
+    corner a f z =
+        let ea : a ≡ 0 = omega arith in
+        let eb : b ≡ 0 = omega arith in
+        let (c, d) = W .corner f in
+        R .kept (spot S g a b k)
+        (λ j from l e. omega (
+          arith,
+          rw eb at from,
+          spot-same S g held a b k j b k (here a b (omega arith) hb) (here j b (omega arith) hb) (e ∙ gone-row S g held j b k (omega arith)),
+        ))
+        ∙ P .kept (spot S g a b k) (λ j i lj li hi e. omega arith)
+        ∙ rw (ea, eb) (c ∙ ap bit (sym d))
+
+    -- the byte before place a
+    led : (a : ℕ) → a ≤ g .x .steps → fromOf first b ≤ a → ((i : ℕ) → i < a → getD new (spot S g i b k) 0 ≡ bit (this i b))
+        → leading new (rowRun S g b k) (fromOf first b) a ≡ bit (ltb 0 a && this (a - 1) b)
+    led a la l ih = split (ltb (fromOf first b) a) refl
+      where
+        split : (t : Bool) → ltb (fromOf first b) a ≡ t
+            → cond t (getD new (gone (rowRun S g b k) (a - 1)) 0) (fromOf first b) ≡ bit (ltb 0 a && this (a - 1) b)
+        split true e =
+            let h : 0 < a = omega (arith, ltb-true (fromOf first b) a e) in
+            rw (lt-ltb 0 a h) (ap (λ (i : ℕ). getD new i 0) (gone-row S g held (a - 1) b k (omega arith)) ∙ ih (a - 1) (omega arith))
+        split false e =
+            let h : a ≡ fromOf first b = omega (arith, ltb-false (fromOf first b) a e) in
+            start (eqb a 0) refl h
+          where
+            start : (t : Bool) → eqb a 0 ≡ t → a ≡ fromOf first b → fromOf first b ≡ bit (ltb 0 a && this (a - 1) b)
+            start true q h =
+                let z = eqb-true a 0 q in
+                rw (← h, z)
+            start false q h =
+                let n = eqb-false a 0 q in
+                let p : 0 < a = omega arith in
+                let (f, z, o) = from-one first b (rw (← h) p) hf in
+                let y : a - 1 ≡ 0 = omega arith in
+                rw (o, lt-ltb 0 a p, y, z, W .corner f .1)
+
+    later : (a : ℕ) → a ≤ g .x .steps → fromOf first b ≤ a → (first ≡ 1 → a + b ≡ 0 → ⊥)
+        → ((i : ℕ) → i < a → getD new (spot S g i b k) 0 ≡ bit (this i b)) → getD new (spot S g a b k) 0 ≡ bit (this a b)
+    later a l f off ih =
+        let ok : Bool = mayPass (getD cells (base + spot S g a b k) 0) in
+        let e : getD new (spot S g a b k) 0 ≡ joined (mayPass (getD cells (base + gone (rowRun S g b k) a) 0))
+        (getD mid (gone (rowRun S g (b - 1) (layerOf b k behind)) a) 0) (getD mid (gone (rowRun S g b behind) a) 0) (leading new (rowRun S g b k) (fromOf first b) a)
+        = ap (λ (i : ℕ). getD new i 0) (sym (gone-row S g held a b k l)) ∙ R .done a f (omega arith) in
+        e
+        ∙ rw (
+          gone-row S g held a b k l,
+          gone-row S g held a (b - 1) (layerOf b k behind) l,
+          gone-row S g held a b behind l,
+          y-byte a l,
+          z-byte a l,
+          led a l f ih,
+        ) (joined-bits ok (cond (eqb b 0) (prev a b) (this a (b - 1))) (prev a b) (ltb 0 a && this (a - 1) b)
+        ∙ ap bit (ap (λ (v : Bool). ok && v) (or-turn b (ltb 0 a && this (a - 1) b) (this a (b - 1)) (prev a b)) ∙ sym (W .later a b l hb off)))
+
+    at-row : (n : ℕ) → n ≤ g .x .steps + 1 → (a : ℕ) → a < n → getD new (spot S g a b k) 0 ≡ bit (this a b)
+    at-row zero l a h = absurd (omega arith)
+    at-row (suc n) l a h =
+        let ih = at-row n (omega arith) in
+        elim (eq-or-lt-of-le (le-of-suc-le-suc h)) [ inl e ↦ rw e (turn (ltb n (fromOf first b)) refl ih) | inr q ↦ ih a q ]
+      where
+        turn : (t : Bool) → ltb n (fromOf first b) ≡ t → ((i : ℕ) → i < n → getD new (spot S g i b k) 0 ≡ bit (this i b))
+            → getD new (spot S g n b k) 0 ≡ bit (this n b)
+        turn true e ih =
+            let z = ltb-true n (fromOf first b) e in
+            let (f, y, o) = from-one first b (omega arith) hf in
+            corner n f (omega arith)
+        turn false e ih =
+            let z = ltb-false n (fromOf first b) e in
+            later n (omega arith) z (λ f y. omega (arith, from-zero f y)) ih
+          where
+            from-zero : first ≡ 1 → n + b ≡ 0 → fromOf first b ≡ 1
+            from-zero f y = let q : b ≡ 0 = omega arith in rw (q, f)
+
+  pub layer-more : Layer S cells old new g base k behind first (b + 1)
+  layer-more = record {
+    at = λ prev this W a i la l li. elim (eq-or-lt-of-le (le-of i l)) [
+      | inl e ↦ rw e (at-row prev this W (g .x .steps + 1) (omega arith) a (omega arith))
+      | inr q ↦ row-kept a i la li (λ e. omega arith) ∙ P .at prev this W a i la q li
+    ];
+    kept = λ i h. R .kept i (λ a f l e. h a b (le-of a l) (omega arith) hb (e ∙ gone-row S g held a b k (le-of a l)))
+        ∙ P .kept i (λ a r la l lr e. h a r la (omega arith) lr e);
+    size = R .size ∙ P .size;
+  }
     where
-      other : (r ≡ b → ⊥) → ltb r (b + 1) ≡ ltb r b → getD new (a + 16 * r) 0 ≡ bit (partly seen c (b + 1) a r)
-      other ne e = R .kept (a + 16 * r) (λ i f k q. ne (omega arith)) ∙ H a r la lr ∙ rw e
-
-      split : (t : Bool) → ltb r b ≡ t → (u : Bool) → ltb b r ≡ u → getD new (a + 16 * r) 0 ≡ bit (partly seen c (b + 1) a r)
-      split true e u f = let k = ltb-true r b e in other (λ q. omega arith) (lt-ltb r (b + 1) (omega arith) ∙ sym e)
-      split false e true f = let k = ltb-true b r f in other (λ q. omega arith) (le-ltb r (b + 1) (omega arith) ∙ sym e)
-      split false e false f =
-          let q : r ≡ b = omega (arith, ltb-false r b e, ltb-false b r f) in
-          rw (q, lt-ltb b (b + 1) (omega arith)) (at-row (g .x .steps + 1) (omega arith) a (omega arith))
-
--- ---- layers
-
--- all rows are a layer
-pub one-layer : (m : Map) (g : Between) (c : ℕ) (old new : List ℕ) → Layer m g c 0 (g .y .steps + 1) old new → Layers m g c (c + 1) old new
-one-layer m g c old new L seen Q H a b la lb =
-    L seen Q (λ a b la lb. H a b la lb ∙ rw (le-ltb b 0 (omega arith))) a b la lb ∙ rw (lt-ltb b (g .y .steps + 1) (omega arith), add-one c)
+      le-of : {n : ℕ} (i : ℕ) → i < n + 1 → i ≤ n
+      le-of i l = omega arith

@@ -27,13 +27,13 @@ use Rattle.routes.specs.Paths.{leads}
 use Rattle.routes.specs.Offered.{reachedAt, reached, reachedCount}
 use Rattle.routes.specs.Entries.{checkEnds, reachedCheck, reachedAnswer, reachedWritten, reachedOut}
 use Rattle.routes.specs.Box.{between, reach, far, Within}
-use Rattle.routes.specs.Sweep.{entry, waysOf}
-use Rattle.routes.specs.Shown.{Shown, Bits}
+use Rattle.routes.specs.Sweep.{entry, Spread, waysOf, Bits}
 use Rattle.routes.proofs.Differences.{hops-is}
 use Rattle.routes.proofs.Box.{held, reach-in}
 use Rattle.routes.proofs.Runs.{reach-far}
 use Rattle.routes.proofs.Reached.{reached-length, reached-byte}
 use Rattle.routes.proofs.Forward.{behind, boxed, behind-is, from-start, end-entry}
+use Rattle.routes.proofs.Layers.{spread-safe}
 use Rattle.routes.proofs.Trails.{summed, far-zero}
 use Rattle.routes.specs.declared.Ways.{Ways}
 use Rattle.routes.specs.declared.Between.{Between}
@@ -51,7 +51,7 @@ module _ (m : Map) (s e : Place) (s-in : Inside (m .sizes) s) (e-in : Inside (m 
       ∙ ap (λ (b : Bool). eqb (hops s e) 0 || b) (summed w (behind m s e s-in e-in) (far g) h)
 
   module _ (old clear mid : List ℕ) (room : nodes (m .sizes) ≤ length old) (C : Filled (λ i. i) (λ i. 0) old clear (nodes (m .sizes)))
-      (W : Shown m g (g .z .steps + 1) clear mid) where
+      (W : Spread m g (g .z .steps + 1) clear mid) where
     -- a node of the box that is not the end has its byte
     at-node : (t : Place) → Within g t → (reach g t ≡ e → ⊥) → behind m s e s-in e-in t ≡ leads m e s (reach g t)
     at-node t w off = behind-is m s e s-in e-in t w (λ f. off (ap (reach g) f ∙ reach-far s e))
@@ -66,8 +66,8 @@ module _ (m : Map) (s e : Place) (s-in : Inside (m .sizes) s) (e-in : Inside (m 
             ap (λ (p : Place). getD mid (number (m .sizes) p) 0) f
             ∙ W .at (behind m s e s-in e-in) (from-start m s e s-in e-in ends) t w (omega (arith, w .z-le))
             ∙ ap bit l
-        split false h = W .safe (behind m s e s-in e-in) (from-start m s e s-in e-in ends) (number (m .sizes) q) 0
-            (λ t w l k.
+        split false h = spread-safe m g clear mid W (behind m s e s-in e-in) (from-start m s e s-in e-in ends) (number (m .sizes) q) 0
+            (λ t w k.
             let f : q ≡ reach g t = sym (place-of (m .sizes) q i) ∙ ap (placeOf (m .sizes)) k ∙ place-of (m .sizes) (reach g t) (reach-in (m .sizes) g t (held (m .sizes) s e s-in e-in) w) in
             ap bit (at-node t w (λ k. off (f ∙ k)) ∙ ap (leads m e s) (sym f) ∙ h))
             (C .at (number (m .sizes) q) (number-lt (m .sizes) q i))
@@ -78,8 +78,7 @@ module _ (m : Map) (s e : Place) (s-in : Inside (m .sizes) s) (e-in : Inside (m 
         (λ k i. low k i (eqb k (number (m .sizes) e)) refl)
         (λ k i.
         getD-set-other mid (number (m .sizes) e) k v 0 (λ q. omega (arith, number-lt (m .sizes) e e-in))
-        ∙ W .safe (behind m s e s-in e-in) (from-start m s e s-in e-in ends) k (getD clear k 0)
-        (λ t w l q. absurd (omega (arith, number-lt (m .sizes) (reach g t) (reach-in (m .sizes) g t (held (m .sizes) s e s-in e-in) w)))) refl
+        ∙ W .kept k (λ t w l q. omega (arith, number-lt (m .sizes) (reach g t) (reach-in (m .sizes) g t (held (m .sizes) s e s-in e-in) w)))
         ∙ C .kept k (λ j l q. omega arith))
       where
         low : (k : ℕ) → k < nodes (m .sizes) → (t : Bool) → eqb k (number (m .sizes) e) ≡ t

@@ -20,15 +20,16 @@ use Rattle.mesh.specs.declared.Next.the-variants.{At}
 use Rattle.routes.specs.Differences.{hops, same}
 use Rattle.routes.specs.Paths.{leads}
 use Rattle.routes.specs.Offered.{offers, lowest, routeWithin, route}
-use Rattle.routes.specs.Box.{largest, between, reach, far, Within}
-use Rattle.routes.specs.Sweep.{entry, waysOf}
-use Rattle.routes.specs.Table.{Kept, waysIn, towards, nearest, trail}
-use Rattle.routes.proofs.Differences.{hops-zero, hops-is, same-iff, size-is, place-eq}
+use Rattle.routes.specs.Box.{between, reach, far, Within}
+use Rattle.routes.specs.Sweep.{entry, Spread, waysIn, waysOf}
+use Rattle.routes.specs.Table.{towards, nearest, trail}
+use Rattle.routes.proofs.Differences.{at-eq, hops-zero, hops-is, same-iff, size-is, place-eq}
 use Rattle.routes.proofs.Paths.{leads-iff, hop-lowers}
-use Rattle.routes.proofs.Offered.{lowest-is, least-same, offers-iff}
+use Rattle.routes.proofs.Offered.{lowest-is, least-one, offers-iff}
 use Rattle.routes.proofs.Runs.{runOn, origin, reach-first, reach-far}
 use Rattle.routes.proofs.Backward.{ahead, node-in, step-back, from-end, leads-entry, offers-back, offers-on}
-use Rattle.routes.proofs.Following.{towards-within, ways-are}
+use Rattle.routes.proofs.Entered.{ways-in}
+use Rattle.routes.proofs.Following.{towards-within}
 use Rattle.routes.specs.declared.Ways.{Ways}
 use Rattle.routes.specs.declared.Between.{Between}
 
@@ -115,7 +116,7 @@ module _ (m : Map) (s e : Place) (s-in : Inside (m .sizes) s) (e-in : Inside (m 
       let l : T (ltb 0 (on t a)) = T-and (ltb 0 (on t a)) (ahead m s e s-in e-in (put a t (on t a - 1))) .0 (rw h tt) .0 in
       let n : next (m .sizes) p j ≡ At q = step-back m s e s-in e-in t w a (ltb→lt 0 (on t a) l) in
       let L = lowest-is 6 (offers m e p) j (dir-lt a (not (runOn g a .down))) o in
-      let f : lowest 6 (offers m e p) ≡ j = least-same (offers m e p) (lowest 6 (offers m e p)) j (L .none) (L .passes)
+      let f : lowest 6 (offers m e p) ≡ j = least-one (λ i. T (offers m e p i)) (lowest 6 (offers m e p)) j (L .none) (L .passes)
       (none-here (offers m e p) a (runOn g a .down) (away t w a) none) o in
       let (r, l, k, y, P) = offers-iff m e p j i .0 o in
       let z : r ≡ q = at-eq (sym k ∙ n) in
@@ -124,17 +125,22 @@ module _ (m : Map) (s e : Place) (s-in : Inside (m .sizes) s) (e-in : Inside (m 
         nearer = subst (λ (r : Place). hops p e ≡ suc (hops r e)) z (hop-lowers m e p r j i k y);
         leading = subst (λ (r : Place). T (leads m e r e)) z (leads-iff m e r e (next-in (m .sizes) p r i j k) .1 (l, P));
       }
-    where
-      at-eq : {p q : Place} → At p ≡ At q → p ≡ q
-      at-eq h = cc
 
-  module _ (small : Inside largest (far g)) (table : List ℕ) (K : Kept m g (g .z .steps + 1) table) where
-    nearest-is : (t : Place) → Within g t → nearest table t ≡ towards (waysOf (ahead m s e s-in e-in) t) t
+  -- the start has a path if it is the end, or if a way from it is seen
+  pub granted-is : (w : Ways) → w ≡ waysOf (ahead m s e s-in e-in) (far g) → leads m e s e ≡ (eqb (hops s e) 0 || not (eqb (w .x + w .y + w .z) 0))
+  granted-is w h =
+      ap (λ (p : Place). leads m e p e) (sym (reach-far e s))
+      ∙ leads-entry m s e s-in e-in ends (far g) (record { x-le = omega arith; y-le = omega arith; z-le = omega arith })
+      ∙ ap (λ (b : Bool). b || entry (ahead m s e s-in e-in) (far g)) (far-zero s e)
+      ∙ ap (λ (b : Bool). eqb (hops s e) 0 || b) (summed w (ahead m s e s-in e-in) (far g) h)
+
+  module _ (old table : List ℕ) (K : Spread m g (g .z .steps + 1) old table) where
+    nearest-is : (t : Place) → Within g t → nearest (m .sizes) g table t ≡ towards (waysOf (ahead m s e s-in e-in) t) t
     nearest-is t w = ap (λ (v : Ways). towards v t)
-        (ways-are m g small (g .z .steps + 1) table K (ahead m s e s-in e-in) (from-end m s e s-in e-in ends) t w (omega (arith, w .z-le)))
+        (ways-in m g (g .z .steps + 1) old table K (ahead m s e s-in e-in) (from-end m s e s-in e-in ends) t w (omega (arith, w .z-le)))
 
     -- from a node with a path that is not the end, the way takes the lowest offered direction
-    forth : (t : Place) → Within g t → T (leads m e (reach g t) e) → (t ≡ origin → ⊥) → Onto (reach g t) (reach g (nearest table t))
+    forth : (t : Place) → Within g t → T (leads m e (reach g t) e) → (t ≡ origin → ⊥) → Onto (reach g t) (reach g (nearest (m .sizes) g table t))
     forth t w l off =
         rw (nearest-is t w, bit-one (seen t X), bit-one (seen t Y), bit-one (seen t Z)) (split (seen t X) (seen t Y) (seen t Z) refl refl refl)
       where
@@ -159,7 +165,7 @@ module _ (m : Map) (s e : Place) (s-in : Inside (m .sizes) s) (e-in : Inside (m 
     -- what is read of the route from any node of the box
     abbrev onwards : ℕ → Place → Place
     onwards zero t = t
-    onwards (suc i) t = onwards i (nearest table t)
+    onwards (suc i) t = onwards i (nearest (m .sizes) g table t)
 
     reads : (n i : ℕ) (t : Place) → Within g t → hops (reach g t) e ≡ n → T (leads m e (reach g t) e) → i ≤ n
         → getD (routeWithin n m e (reach g t)) i 0 ≡ number (m .sizes) (reach g (onwards i t))
@@ -170,31 +176,20 @@ module _ (m : Map) (s e : Place) (s-in : Inside (m .sizes) s) (e-in : Inside (m 
     reads (suc n) (suc i) t w h l k =
         let O = forth t w l (λ f. omega (arith, hops-zero (reach g t) e .1 (ap (reach g) f ∙ reach-first e s))) in
         rw (O .led)
-        (reads n i (nearest table t) (towards-within g (waysIn table t) t w) (omega (arith, O .nearer)) (O .leading) (omega arith))
+        (reads n i (nearest (m .sizes) g table t) (towards-within g (waysIn (m .sizes) g table t) t w) (omega (arith, O .nearer)) (O .leading) (omega arith))
 
-    pushed : (i : ℕ) (t : Place) → nearest table (onwards i t) ≡ onwards i (nearest table t)
+    pushed : (i : ℕ) (t : Place) → nearest (m .sizes) g table (onwards i t) ≡ onwards i (nearest (m .sizes) g table t)
     pushed zero t = refl
-    pushed (suc i) t = pushed i (nearest table t)
+    pushed (suc i) t = pushed i (nearest (m .sizes) g table t)
 
-    trail-is : (i : ℕ) → trail g table i ≡ onwards i (far g)
+    trail-is : (i : ℕ) → trail (m .sizes) g table i ≡ onwards i (far g)
     trail-is zero = refl
-    trail-is (suc i) = ap (nearest table) (trail-is i) ∙ pushed i (far g)
+    trail-is (suc i) = ap (nearest (m .sizes) g table) (trail-is i) ∙ pushed i (far g)
 
     -- the nodes of the way are those of the route
-    pub route-trail : T (leads m e s e) → (i : ℕ) → i ≤ hops s e → getD (route m e s) i 0 ≡ number (m .sizes) (reach g (trail g table i))
+    pub route-trail : T (leads m e s e) → (i : ℕ) → i ≤ hops s e → getD (route m e s) i 0 ≡ number (m .sizes) (reach g (trail (m .sizes) g table i))
     unfolding route
     route-trail l i k =
         rw (trail-is i) (subst (λ (p : Place). getD (routeWithin (hops s e) m e p) i 0 ≡ number (m .sizes) (reach g (onwards i (far g)))) (reach-far e s)
         (reads (hops s e) i (far g) (record { x-le = omega arith; y-le = omega arith; z-le = omega arith }) (ap (λ (p : Place). hops p e) (reach-far e s))
         (subst (λ (p : Place). T (leads m e p e)) (sym (reach-far e s)) l) k))
-
-    -- the start has a path if it is the end, or if a way from it is seen
-    pub granted-is : let w = waysIn table (far g) in leads m e s e ≡ (eqb (hops s e) 0 || not (eqb (w .x + w .y + w .z) 0))
-    granted-is =
-        let Q = from-end m s e s-in e-in ends in
-        let w : Within g (far g) = record { x-le = omega arith; y-le = omega arith; z-le = omega arith } in
-        let W = ways-are m g small (g .z .steps + 1) table K (ahead m s e s-in e-in) Q (far g) w (omega arith) in
-        ap (λ (p : Place). leads m e p e) (sym (reach-far e s))
-        ∙ leads-entry m s e s-in e-in ends (far g) w
-        ∙ ap (λ (b : Bool). b || entry (ahead m s e s-in e-in) (far g)) (far-zero s e)
-        ∙ ap (λ (b : Bool). eqb (hops s e) 0 || b) (summed (waysIn table (far g)) (ahead m s e s-in e-in) (far g) W)

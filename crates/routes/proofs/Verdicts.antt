@@ -72,22 +72,16 @@ module _ (S : Sizes) (cells : List ℕ) (s e : ℕ) where
   abbrev m : Map
   m = mapOf S cells
 
-  abbrev from : Place
-  from = placeOf S s
-
-  abbrev to : Place
-  to = placeOf S e
-
   -- the checks of the question, and of its ends
   abbrev asked : Answer
   asked = checkMap S cells andThen checkNode S s andThen checkNode S e
 
   abbrev end-checks : Answer
-  end-checks = unless (mayEnd (cellAt m from)) FaultyEnd andThen unless (mayEnd (cellAt m to)) FaultyEnd
+  end-checks = unless (mayEnd (cellAt m (placeOf S s))) FaultyEnd andThen unless (mayEnd (cellAt m (placeOf S e))) FaultyEnd
 
   ends-are : checkEnds S cells s e ≡ asked andThen end-checks
   unfolding checkEnds
-  ends-are = then-then asked (unless (mayEnd (cellAt m from)) FaultyEnd) (unless (mayEnd (cellAt m to)) FaultyEnd)
+  ends-are = then-then asked (unless (mayEnd (cellAt m (placeOf S s))) FaultyEnd) (unless (mayEnd (cellAt m (placeOf S e))) FaultyEnd)
 
   asked-no : answerNo asked ≤ 5
   unfolding checkMap
@@ -131,23 +125,23 @@ module _ (S : Sizes) (cells : List ℕ) (s e : ℕ) where
   ends-iff = (
     λ h.
         let (q, w) = split asked end-checks (sym ends-are ∙ h) in
-        let (a, b) = split (unless (mayEnd (cellAt m from)) FaultyEnd) (unless (mayEnd (cellAt m to)) FaultyEnd) w in (
+        let (a, b) = split (unless (mayEnd (cellAt m (placeOf S s))) FaultyEnd) (unless (mayEnd (cellAt m (placeOf S e))) FaultyEnd) w in (
           in-order .0 q,
           (
-            holds-true (mayEnd (cellAt m from)) .1 (ok-of (mayEnd (cellAt m from)) FaultyEnd a),
-            holds-true (mayEnd (cellAt m to)) .1 (ok-of (mayEnd (cellAt m to)) FaultyEnd b),
+            holds-true (mayEnd (cellAt m (placeOf S s))) .1 (ok-of (mayEnd (cellAt m (placeOf S s))) FaultyEnd a),
+            holds-true (mayEnd (cellAt m (placeOf S e))) .1 (ok-of (mayEnd (cellAt m (placeOf S e))) FaultyEnd b),
           ),
         ),
     λ t.
         let (q, (a, b)) = t in
-        ends-are ∙ rw (in-order .1 q, holds-true (mayEnd (cellAt m from)) .0 a, holds-true (mayEnd (cellAt m to)) .0 b),
+        ends-are ∙ rw (in-order .1 q, holds-true (mayEnd (cellAt m (placeOf S s))) .0 a, holds-true (mayEnd (cellAt m (placeOf S e))) .0 b),
   )
 
   -- "start or end of a route is faulty": refused by 9 exactly if an end does not work
   pub faulty-iff : (checkEnds S cells s e ≡ Refused FaultyEnd) ↔ (InOrder S cells s e × (BothWork S cells s e → ⊥))
   faulty-iff =
-      let a = mayEnd (cellAt m from) in
-      let b = mayEnd (cellAt m to) in (
+      let a = mayEnd (cellAt m (placeOf S s)) in
+      let b = mayEnd (cellAt m (placeOf S e)) in (
         λ h.
             let (q, w) = past asked end-checks FaultyEnd (omega (arith, asked-no)) (sym ends-are ∙ h) in
             (in-order .0 q, one-fails a b FaultyEnd w),
@@ -156,8 +150,8 @@ module _ (S : Sizes) (cells : List ℕ) (s e : ℕ) where
 
   ends-no : answerNo (checkEnds S cells s e) ≤ 9
   ends-no =
-      let a = mayEnd (cellAt m from) in
-      let b = mayEnd (cellAt m to) in
+      let a = mayEnd (cellAt m (placeOf S s)) in
+      let b = mayEnd (cellAt m (placeOf S e)) in
       rw ends-are (no-then 9 asked end-checks (omega (arith, asked-no))
       (no-then 9 (unless a FaultyEnd) (unless b FaultyEnd) (no-unless 9 a FaultyEnd (omega arith)) (no-unless 9 b FaultyEnd (omega arith))))
 
@@ -172,14 +166,14 @@ module _ (S : Sizes) (cells : List ℕ) (s e : ℕ) where
   pub granted-iff : (verdictCheck S cells s e ≡ Done) ↔ (InOrder S cells s e × Joined S cells s e)
   unfolding verdictCheck
   granted-iff =
-      let t = leads m to from to in (
+      let t = leads m (placeOf S e) (placeOf S s) (placeOf S e) in (
         λ h.
             let (f, l) = split (checkEnds S cells s e) (unless t NoPath) h in
             let (q, (a, b)) = ends-iff .0 f in
-            (q, path-iff m from to (place-in S s (q .start-in)) .1 (a, b, holds-true t .1 (ok-of t NoPath l))),
+            (q, path-iff m (placeOf S s) (placeOf S e) (place-in S s (q .start-in)) .1 (a, b, holds-true t .1 (ok-of t NoPath l))),
         λ w.
             let (q, p) = w in
-            let (a, b, l) = path-iff m from to (place-in S s (q .start-in)) .0 p in
+            let (a, b, l) = path-iff m (placeOf S s) (placeOf S e) (place-in S s (q .start-in)) .0 p in
             rw (ends-iff .1 (q, (a, b)), holds-true t .0 l),
       )
 
@@ -187,24 +181,24 @@ module _ (S : Sizes) (cells : List ℕ) (s e : ℕ) where
   pub refused-iff : (verdictCheck S cells s e ≡ Refused NoPath) ↔ (InOrder S cells s e × BothWork S cells s e × (Joined S cells s e → ⊥))
   unfolding verdictCheck
   refused-iff =
-      let t = leads m to from to in (
+      let t = leads m (placeOf S e) (placeOf S s) (placeOf S e) in (
         λ h.
             let (f, l) = past (checkEnds S cells s e) (unless t NoPath) NoPath (omega (arith, ends-no)) h in
             let (q, (a, b)) = ends-iff .0 f in
             let z : t ≡ false = test-failed t NoPath NoPath l in
-            (q, (a, b), λ p. rw z at (path-iff m from to (place-in S s (q .start-in)) .0 p .2)),
+            (q, (a, b), λ p. rw z at (path-iff m (placeOf S s) (placeOf S e) (place-in S s (q .start-in)) .0 p .2)),
         λ w.
             let (q, (a, b), none) = w in
-            let z : t ≡ false = bool-ext t false (λ x. none (path-iff m from to (place-in S s (q .start-in)) .1 (a, b, x))) (λ x. absurd x) in
+            let z : t ≡ false = bool-ext t false (λ x. none (path-iff m (placeOf S s) (placeOf S e) (place-in S s (q .start-in)) .1 (a, b, x))) (λ x. absurd x) in
             rw (ends-iff .1 (q, (a, b)), z),
       )
 
   -- so every walk through working neighbours is longer than the Manhattan distance
-  pub refused-walks : verdictCheck S cells s e ≡ Refused NoPath → (l : List ℕ) → Walk m to from to l → hops from to + 1 < length l
+  pub refused-walks : verdictCheck S cells s e ≡ Refused NoPath → (l : List ℕ) → Walk m (placeOf S e) (placeOf S s) (placeOf S e) l → hops (placeOf S s) (placeOf S e) + 1 < length l
   refused-walks h l w =
       let (q, (a, b), none) = refused-iff .0 h in
       let i = place-in S s (q .start-in) in
-      elim (eq-or-lt-of-le (walk-le m to w i)) [
-        | inl d ↦ absurd (none (l, record { start-may = a; end-may = b; leading = path-walk m to from l i .1 (w, sym d) }))
+      elim (eq-or-lt-of-le (walk-le m (placeOf S e) w i)) [
+        | inl d ↦ absurd (none (l, record { start-may = a; end-may = b; leading = path-walk m (placeOf S e) (placeOf S s) l i .1 (w, sym d) }))
         | inr d ↦ d
       ]

@@ -6,4 +6,3 @@ pub mod Promise
 pub mod Box
 pub mod Sweep
 pub mod Table
-pub mod Shown

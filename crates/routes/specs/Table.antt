@@ -1,49 +1,39 @@
 -- The table of a route: the layers of a sweep from the end, and the way through them. No promise is stated in these words: that the way is
 -- the route is proved (proofs/Following). Assumes nothing.
-use mathlib.Core.Bool.{Bool, cond}
+use mathlib.Core.Bool.{cond}
 use mathlib.Core.List.{List, _++_}
 use mathlib.Core.Path.{_≡_}
-use Prim.Native.Nat.{ℕ, zero, suc, _+_, _-_, _*_, _<_}
-use lib.ListN.{length, getD, drop}
-use Rattle.mesh.specs.Tools.{bit, one}
+use Prim.Native.Nat.{ℕ, zero, suc, _+_, _-_}
+use lib.ListN.{length, drop}
+use Rattle.mesh.specs.Tools.{one}
 use Rattle.mesh.specs.Mesh.{place}
 use Rattle.mesh.specs.Cells.{Map}
 use Rattle.mesh.specs.Answers.{granted, numbered, _andThen_, checkRoom}
+use Rattle.mesh.specs.declared.Sizes.{Sizes}
 use Rattle.mesh.specs.declared.Place.{Place}
 use Rattle.mesh.specs.declared.Answer.{Answer}
 use Rattle.mesh.specs.declared.Numbered.{Numbered}
 use Rattle.routes.specs.Differences.{hops}
 use Rattle.routes.specs.Offered.{route}
 use Rattle.routes.specs.Entries.{checkPath}
-use Rattle.routes.specs.Box.{far, Within}
-use Rattle.routes.specs.Sweep.{Seen, entered}
+use Rattle.routes.specs.Box.{far}
+use Rattle.routes.specs.Sweep.{waysIn}
 use Rattle.routes.specs.declared.Ways.{Ways}
 use Rattle.routes.specs.declared.Between.{Between}
 
--- where the node t steps from the end stands
-abbrev pub slot : Place → ℕ
-slot t = t .x + 16 * (t .y + 16 * t .z)
-
--- the first n layers are kept
-abbrev pub Kept : Map → Between → ℕ → List ℕ → Type 0
-Kept m g n table = (seen : Place → Bool) → Seen m g seen → (t : Place) → Within g t → t .z < n → getD table (slot t) 0 ≡ bit (seen t)
-
--- the ways from a node, and the node one step nearer: the first of X, Y and Z
-abbrev pub waysIn : List ℕ → Place → Ways
-waysIn table t = record { x = entered table (slot t) 1 (t .x); y = entered table (slot t) 16 (t .y); z = entered table (slot t) 256 (t .z) }
-
+-- the node one step nearer: the first of X, Y and Z
 abbrev pub towards : Ways → Place → Place
 towards w t =
     cond (one (w .x)) (place (t .x - 1) (t .y) (t .z))
     (cond (one (w .y)) (place (t .x) (t .y - 1) (t .z)) (cond (one (w .z)) (place (t .x) (t .y) (t .z - 1)) t))
 
-abbrev pub nearest : List ℕ → Place → Place
-nearest table t = towards (waysIn table t) t
+abbrev pub nearest : Sizes → Between → List ℕ → Place → Place
+nearest S g table t = towards (waysIn S g table t) t
 
 -- the way, i steps from the far corner on
-abbrev pub trail : Between → List ℕ → ℕ → Place
-trail g table zero = far g
-trail g table (suc i) = nearest table (trail g table i)
+abbrev pub trail : Sizes → Between → List ℕ → ℕ → Place
+trail S g table zero = far g
+trail S g table (suc i) = nearest S g table (trail S g table i)
 
 -- the answer and the lent numbers, past the checks of the ends: refusals 10 and 3
 abbrev pub pathCheck : Map → Place → Place → ℕ → Answer

@@ -9,6 +9,7 @@ ghost use mathlib.Core.Path.{_≡_};
 ghost use Prim.Native.Nat.{_≤_, _<_};
 ghost use Rattle.mesh.specs.Mesh.{InRange, Inside, place, nodes, number};
 ghost use Rattle.routes.specs.Box.{largest, run, between, gone, reach, far, rowRun, OnAxis, Held, Within};
+ghost use Rattle.routes.specs.Sweep.{flat};
 
 // One axis, from one coordinate to another.
 pub fn run(from: usize, to: usize) -> Run
@@ -58,6 +59,20 @@ impl Between {
             y: self.y.steps,
             z: self.z.steps,
         }
+    }
+
+    // The box as one layer.
+    pub fn flat(self) -> Between
+        ensures { λ r. ⌜ r ≡ flat self ⌝ }
+    {
+        let x = self.x;
+        let y = self.y;
+        let z = Run {
+            from: 0,
+            steps: 0,
+            down: false,
+        };
+        Between { x, y, z }
     }
 
     // The nodes of the row after b and c steps.

@@ -6,9 +6,10 @@ use crate::boxes::between;
 use crate::signed::difference;
 use crate::signed::way;
 use crate::sweep::entered;
+use crate::sweep::over;
 use crate::sweep::seeded;
 use crate::sweep::sweep;
-use crate::sweep::sweep_layer;
+use crate::sweep::ways_in;
 use mesh::Place;
 use mesh::Sizes;
 ghost use mathlib.Core.Path.{_≡_};
@@ -27,19 +28,15 @@ pub fn ways(s: Sizes, cells: &[u8], g: Between) -> Ways
     requires { ⌜ Ready s (now cells) g ⌝ }
     ensures { λ r. ⌜ WaysTo (mapOf s (now (cells .entry))) g (far g) r ⌝ }
 {
-    let a = g.x.steps;
-    let b = g.y.steps;
     let c = g.z.steps;
-    let k = a + 16 * b;
-    let mut layer = seeded();
+    let f = g.flat();
+    let mut layer = seeded(f.node(s, 0, 0, 0));
     sweep(s, cells, g, c, &mut layer);
-    let z = entered(&layer, k, 0, c);
-    sweep_layer(s, cells, g, c, &mut layer);
-    Ways {
-        x: entered(&layer, k, 1, a),
-        y: entered(&layer, k, 16, b),
-        z,
-    }
+    let t = f.far();
+    let z = entered(s, f, &layer, t, c, 0, 0, 0);
+    over(s, cells, g, c, &mut layer);
+    let w = ways_in(s, f, &layer, t);
+    Ways { x: w.x, y: w.y, z }
 }
 
 // Does a path lead between two corners, h hops apart, with these ways into the second?

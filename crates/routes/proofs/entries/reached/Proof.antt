@@ -7,24 +7,14 @@ use denote.Ref.{now}
 use lib.ListN.{length}
 use Rattle.mesh.specs.Mesh.{nodes, placeOf}
 use Rattle.mesh.specs.Cells.{mapOf}
-use Rattle.mesh.specs.declared.Answer.the-variants.{Done}
-use Rattle.routes.specs.Entries.{checkEnds}
-use Rattle.routes.specs.Sweep.{Ends}
-use Rattle.routes.proofs.Ends.{ends-granted}
+use Rattle.routes.proofs.Ends.{Past, past-ends}
 use Rattle.routes.proofs.Spreading.{front-bits, reached-refused, reached-3, reached-0}
 use Rattle.routes.proofs.entries.reached.Statement.{statement}
 use Rattle.routes.proofs.entries.reached.Tie as tie
 
 -- past the checks
-good : (c : tie.After-enum-told) →
-    let a = c .before .before .before .before .before .args in
-    checkEnds (a .s) (now (a .cells)) (a .start) (a .end) ≡ Done
-good c = sym (c .before .before .check-ends .ensures) ∙ c .enum-told .given .1
-
-ends : (c : tie.After-enum-told) →
-    let a = c .before .before .before .before .before .args in
-    Ends (a .s) (now (a .cells)) (placeOf (a .s) (a .start)) (placeOf (a .s) (a .end))
-ends c = let a = c .before .before .before .before .before .args in ends-granted (a .s) (now (a .cells)) (a .start) (a .end) (good c)
+past : (c : tie.After-enum-told) → let a = c .before .before .before .before .before .args in Past (a .s) (now (a .cells)) (a .start) (a .end)
+past c = past-ends _ _ _ _ _ (c .before .before .check-ends .ensures) (c .enum-told .given .1)
 
 room : (c : tie.Else1) → let a = c .before .before .before .before .before .before .before .args in nodes (a .s) ≤ length (now (a .out))
 room c = rw (c .before .nodes .ensures .0) at (c .if1 .left)
@@ -36,21 +26,21 @@ returns c =
     (sym (c .before .before .before .check-ends .ensures) ∙ c .before .a .given .1)
 
 nodes-requires : tie.Need-nodes-requires
-nodes-requires c κs = ends c .sized
+nodes-requires c κs = past c .1 .sized
 
 returns-2 : tie.Need-returns-2
 returns-2 c =
     let a = c .before .before .before .before .before .before .before .args in
-    reached-3 (a .s) (now (a .cells)) (a .start) (a .end) (now (a .out)) (good (c .before .before)) (rw (c .before .nodes .ensures .0) at (c .if1 .taken))
+    reached-3 (a .s) (now (a .cells)) (a .start) (a .end) (now (a .out)) (past (c .before .before) .0) (rw (c .before .nodes .ensures .0) at (c .if1 .taken))
 
 place-requires : tie.Need-place-requires
-place-requires c κs = ends (c .before .before) .sized
+place-requires c κs = past (c .before .before) .1 .sized
 
 place-requires-2 : tie.Need-place-requires-2
-place-requires-2 c κs = ends (c .before .before .before) .sized
+place-requires-2 c κs = past (c .before .before .before) .1 .sized
 
 write-reached-requires : tie.Need-write-reached-requires
-write-reached-requires c κs = (rw (c .before .before .place .ensures, c .before .place2 .ensures) (ends (c .before .before .before .before .before)), room (c .before .before .before))
+write-reached-requires c κs = (rw (c .before .before .place .ensures, c .before .place2 .ensures) (past (c .before .before .before .before .before) .1), room (c .before .before .before))
 
 total-requires : tie.Need-total-requires
 total-requires c κs =
@@ -70,7 +60,7 @@ returns-3 c =
     let i = w .before .before .before .before in
     let k = i .before .before in
     let a = k .before .before .before .before .before .args in
-    reached-0 (a .s) (now (a .cells)) (a .start) (a .end) (now (a .out)) (good k) (room i) (c .total .result) (w .write-reached .last .1 .1 .1 .1 .0)
+    reached-0 (a .s) (now (a .cells)) (a .start) (a .end) (now (a .out)) (past k .0) (room i) (c .total .result) (w .write-reached .last .1 .1 .1 .1 .0)
     (rw (← w .before .before .before .place .ensures, ← w .before .before .place2 .ensures) (w .write-reached .ensures))
     (rw (← i .before .nodes .ensures .0) (c .total .ensures))
 

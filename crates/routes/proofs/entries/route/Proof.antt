@@ -3,24 +3,14 @@ use mathlib.Core.Path.{_≡_, sym, _∙_}
 use borrow.Author.Needs.{needs}
 use denote.Ref.{now}
 use Rattle.mesh.specs.Mesh.{placeOf}
-use Rattle.mesh.specs.declared.Answer.the-variants.{Done}
-use Rattle.routes.specs.Entries.{checkEnds}
-use Rattle.routes.specs.Sweep.{Ends}
-use Rattle.routes.proofs.Ends.{ends-granted}
+use Rattle.routes.proofs.Ends.{Past, past-ends}
 use Rattle.routes.proofs.Routing.{route-refused, route-past}
 use Rattle.routes.proofs.entries.route.Statement.{statement}
 use Rattle.routes.proofs.entries.route.Tie as tie
 
 -- past the checks
-good : (c : tie.After-enum-told) →
-    let a = c .before .before .before .before .before .args in
-    checkEnds (a .s) (now (a .cells)) (a .start) (a .end) ≡ Done
-good c = sym (c .before .before .check-ends .ensures) ∙ c .enum-told .given .1
-
-ends : (c : tie.After-enum-told) →
-    let a = c .before .before .before .before .before .args in
-    Ends (a .s) (now (a .cells)) (placeOf (a .s) (a .start)) (placeOf (a .s) (a .end))
-ends c = let a = c .before .before .before .before .before .args in ends-granted (a .s) (now (a .cells)) (a .start) (a .end) (good c)
+past : (c : tie.After-enum-told) → let a = c .before .before .before .before .before .args in Past (a .s) (now (a .cells)) (a .start) (a .end)
+past c = past-ends _ _ _ _ _ (c .before .before .check-ends .ensures) (c .enum-told .given .1)
 
 returns : tie.Need-returns
 returns c =
@@ -29,20 +19,20 @@ returns c =
     (sym (c .before .before .before .check-ends .ensures) ∙ c .before .a .given .1)
 
 place-requires : tie.Need-place-requires
-place-requires c κs = ends c .sized
+place-requires c κs = past c .1 .sized
 
 place-requires-2 : tie.Need-place-requires-2
-place-requires-2 c κs = ends (c .before) .sized
+place-requires-2 c κs = past (c .before) .1 .sized
 
 write-route-requires : tie.Need-write-route-requires
-write-route-requires c κs = rw (c .before .before .place .ensures, c .before .place2 .ensures) (ends (c .before .before .before))
+write-route-requires c κs = rw (c .before .before .place .ensures, c .before .place2 .ensures) (past (c .before .before .before) .1)
 
 returns-2 : tie.Need-returns-2
 returns-2 c =
     let w = c .before .before in
     let k = w .before .before .before .before in
     let a = k .before .before .before .before .before .args in
-    route-past (a .s) (now (a .cells)) (a .start) (a .end) (now (a .out)) (good k) (w .write-route .result) (w .write-route .last .1 .1 .1 .1 .0)
+    route-past (a .s) (now (a .cells)) (a .start) (a .end) (now (a .out)) (past k .0) (w .write-route .result) (w .write-route .last .1 .1 .1 .1 .0)
     (rw (← w .before .before .before .place .ensures, ← w .before .before .place2 .ensures) (w .write-route .ensures))
 
 pub route-spec : {M : Type 1} → statement M

@@ -9,17 +9,15 @@ use Rattle.mesh.specs.Mesh.{placeOf, Inside}
 use Rattle.mesh.specs.Cells.{Map, mapOf}
 use Rattle.mesh.proofs.Tests.{bool-ext, holds-true}
 use Rattle.mesh.specs.declared.Place.{Place}
-use Rattle.mesh.specs.declared.Answer.the-variants.{Done}
 use Rattle.routes.specs.Differences.{hops}
 use Rattle.routes.specs.Paths.{leads}
 use Rattle.routes.specs.Offered.{offered}
-use Rattle.routes.specs.Entries.{checkEnds, verdictAnswer}
-use Rattle.routes.specs.Sweep.{Ends}
+use Rattle.routes.specs.Entries.{verdictAnswer}
 use Rattle.routes.proofs.Box.{in-largest}
 use Rattle.routes.proofs.Differences.{hops-zero}
 use Rattle.routes.proofs.Offered.{offered-none, offered-leads}
 use Rattle.routes.proofs.Reached.{start-reached}
-use Rattle.routes.proofs.Ends.{ends-granted, verdict-refused, verdict-10, verdict-0}
+use Rattle.routes.proofs.Ends.{Past, past-ends, verdict-refused, verdict-10, verdict-0}
 use Rattle.routes.specs.declared.Verdict.the-variants.{Granted}
 use Rattle.routes.proofs.entries.verdict.Statement.{statement}
 use Rattle.routes.proofs.entries.verdict.Tie as tie
@@ -35,15 +33,8 @@ module _ (m : Map) (p e : Place) (i : Inside (m .sizes) p) where
   here h = subst (λ (q : Place). leads m e p q ≡ true) (hops-zero p e .0 h) (holds-true (leads m e p p) .0 (start-reached m e p i))
 
 -- past the checks
-good : (c : tie.After-enum-told) →
-    let a = c .before .before .before .before .args in
-    checkEnds (a .s) (now (a .cells)) (a .start) (a .end) ≡ Done
-good c = sym (c .before .before .check-ends .ensures) ∙ c .enum-told .given .1
-
-ends : (c : tie.After-enum-told) →
-    let a = c .before .before .before .before .args in
-    Ends (a .s) (now (a .cells)) (placeOf (a .s) (a .start)) (placeOf (a .s) (a .end))
-ends c = let a = c .before .before .before .before .args in ends-granted (a .s) (now (a .cells)) (a .start) (a .end) (good c)
+past : (c : tie.After-enum-told) → let a = c .before .before .before .before .args in Past (a .s) (now (a .cells)) (a .start) (a .end)
+past c = past-ends _ _ _ _ _ (c .before .before .check-ends .ensures) (c .enum-told .given .1)
 
 -- the hops and the offered set are those of the two places
 counted : (c : tie.After-hops) →
@@ -62,7 +53,7 @@ granted : (c : tie.After-offered) →
     → Granted (c .before .hops .result) (c .offered .result) ≡ verdictAnswer (a .s) (now (a .cells)) (a .start) (a .end)
 granted c l =
     let a = c .before .before .before .before .before .before .before .before .args in
-    rw (counted (c .before), set-is c) (verdict-0 (a .s) (now (a .cells)) (a .start) (a .end) (good (c .before .before .before .before)) l)
+    rw (counted (c .before), set-is c) (verdict-0 (a .s) (now (a .cells)) (a .start) (a .end) (past (c .before .before .before .before) .0) l)
 
 returns : tie.Need-returns
 returns c =
@@ -71,28 +62,28 @@ returns c =
     (sym (c .before .before .before .check-ends .ensures) ∙ c .before .a .given .1)
 
 place-requires : tie.Need-place-requires
-place-requires c κs = ends c .sized
+place-requires c κs = past c .1 .sized
 
 place-requires-2 : tie.Need-place-requires-2
-place-requires-2 c κs = ends (c .before) .sized
+place-requires-2 c κs = past (c .before) .1 .sized
 
 hops-requires : tie.Need-hops-requires
 hops-requires c κs =
-    let k = ends (c .before .before) in
+    let k = past (c .before .before) .1 in
     let a = c .before .before .before .before .before .before .args in
     rw (c .before .place .ensures, c .place2 .ensures)
     (in-largest (a .s) (placeOf (a .s) (a .start)) (k .sized) (k .start-in), in-largest (a .s) (placeOf (a .s) (a .end)) (k .sized) (k .end-in))
 
 offered-requires : tie.Need-offered-requires
-offered-requires c κs = rw (c .before .before .place .ensures, c .before .place2 .ensures) (ends (c .before .before .before))
+offered-requires c κs = rw (c .before .before .place .ensures, c .before .place2 .ensures) (past (c .before .before .before) .1)
 
 returns-2 : tie.Need-returns-2
 returns-2 c =
     let o = c .before .before in
     let a = o .before .before .before .before .before .before .before .before .args in
     let k = o .before .before .before .before in
-    verdict-10 (a .s) (now (a .cells)) (a .start) (a .end) (good k)
-    (none (mapOf (a .s) (now (a .cells))) (placeOf (a .s) (a .start)) (placeOf (a .s) (a .end)) (ends k .start-in)
+    verdict-10 (a .s) (now (a .cells)) (a .start) (a .end) (past k .0)
+    (none (mapOf (a .s) (now (a .cells))) (placeOf (a .s) (a .start)) (placeOf (a .s) (a .end)) (past k .1 .start-in)
     (sym (set-is o) ∙ c .before .if1 .taken) (rw (counted (o .before)) at (c .if2 .taken)))
 
 returns-3 : tie.Need-returns-3
@@ -101,14 +92,14 @@ returns-3 c =
     let a = o .before .before .before .before .before .before .before .before .args in
     let z : o .before .hops .result ≡ 0 = omega arith in
     granted o (here (mapOf (a .s) (now (a .cells))) (placeOf (a .s) (a .start)) (placeOf (a .s) (a .end))
-    (ends (o .before .before .before .before) .start-in) (sym (counted (o .before)) ∙ z))
+    (past (o .before .before .before .before) .1 .start-in) (sym (counted (o .before)) ∙ z))
 
 returns-4 : tie.Need-returns-4
 returns-4 c =
     let o = c .before in
     let a = o .before .before .before .before .before .before .before .before .args in
     granted o (some (mapOf (a .s) (now (a .cells))) (placeOf (a .s) (a .start)) (placeOf (a .s) (a .end))
-    (ends (o .before .before .before .before) .start-in) (omega (arith, set-is o)))
+    (past (o .before .before .before .before) .1 .start-in) (omega (arith, set-is o)))
 
 pub verdict-spec : {M : Type 1} → statement M
 verdict-spec =

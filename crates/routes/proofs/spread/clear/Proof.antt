@@ -14,25 +14,10 @@ Inv-loop out₀ n i₀ out i = (i ≤ n) × Filled (λ j. j) (λ j. 0) out₀ ou
 abbrev μ-loop : tie.MeasureT-loop
 μ-loop out₀ n i₀ out i = n - i
 
-loop-holds : tie.Need-loop-holds Inv-loop μ-loop
-loop-holds c = (omega arith, fill-none _ _ _)
-
-slice-write-out : tie.Need-slice-write-out Inv-loop μ-loop
-slice-write-out c = omega (arith, c .before .loop .inv .1 .size)
-
-add-i : tie.Need-add-i Inv-loop μ-loop
-add-i c = omega arith
-
-loop-less : tie.Need-loop-less Inv-loop μ-loop
-loop-less c = omega arith
-
 loop-again : tie.Need-loop-again Inv-loop μ-loop
 loop-again c =
     let l = c .before .loop in
     (omega arith, fill-more _ _ _ _ _ _ _ (l .inv .1) (omega (arith, l .inv .1 .size)) (λ i h q. omega arith) refl refl)
-
-same-length : tie.Need-same-length Inv-loop μ-loop
-same-length c = c .before .loop .inv .1 .size
 
 returns : tie.Need-returns Inv-loop μ-loop
 returns c =
@@ -42,4 +27,6 @@ returns c =
     subst (λ (n : ℕ). Filled (λ j. j) (λ j. 0) (now (a .out)) (l .out) n) e (l .inv .1)
 
 pub clear-spec : {M : Type 1} → statement M
-clear-spec = tie.close (tie.spec Inv-loop μ-loop loop-holds slice-write-out add-i loop-less loop-again same-length returns)
+clear-spec =
+    tie.close (tie.spec Inv-loop μ-loop (λ c. (omega arith, fill-none _ _ _)) (λ c. omega (arith, c .before .loop .inv .1 .size)) (λ c. omega arith)
+    (λ c. omega arith) loop-again (λ c. c .before .loop .inv .1 .size) returns)

@@ -1,74 +1,123 @@
--- `routes::spread::spread` meets its contract: the layers before the last, then the last (`layer-ways`, `shown-more`). Assumes nothing.
-use mathlib.Core.Path.{_≡_, _∙_, ap}
-use mathlib.Core.Bool.{Bool}
-use Prim.Native.Nat.{_+_}
+-- `routes::spread::spread` meets its contract: layer after layer, and then the ways are read. Assumes nothing.
+use mathlib.Core.Path.{_≡_, refl, sym, ap, _∙_, subst}
+use Prim.Native.Nat.{ℕ, _+_, _-_, _≤_, _<_}
 use native.Mathlib.Omega.{arith}
 use borrow.Author.Needs.{needs}
+use borrow.Author.Tests.{ne-eqb}
 use denote.Ref.{now}
-use lib.ListN.{length}
-use Rattle.mesh.specs.Mesh.{Inside}
+use lib.Dec.{eqb}
+use lib.ListN.{length, set, length-set}
+use Rattle.mesh.specs.Tools.{bit}
+use Rattle.mesh.specs.Mesh.{Inside, nodes}
 use Rattle.mesh.specs.Cells.{mapOf}
-use Rattle.mesh.specs.declared.Place.{Place}
+use Rattle.mesh.proofs.Bits.{bit-le}
 use Rattle.routes.specs.Box.{largest, far}
-use Rattle.routes.specs.Sweep.{Seen, Holds, prior}
+use Rattle.routes.specs.Sweep.{Spread}
 use Rattle.routes.proofs.Box.{far-in}
-use Rattle.routes.proofs.Entered.{seed-holds, layer-ways}
-use Rattle.routes.proofs.Showing.{shown-more}
+use Rattle.routes.proofs.Layers.{room-of, spread-none, spread-laid, spread-more, spread-seeds, spread-from}
+use Rattle.routes.proofs.Entered.{ways-in}
 use Rattle.routes.proofs.spread.spread.Statement.{statement}
 use Rattle.routes.proofs.spread.spread.Tie as tie
 
--- a box is small
-small : (c : tie.Start) → Inside largest (far (c .args .g))
-small c = far-in (c .args .s) (c .args .g) (c .pre .0 .sized) (c .pre .0 .held)
+abbrev Inv-loop : tie.InvT-loop
+Inv-loop s cells g bytes₀ n behind₀ first₀ c₀ bytes behind first c =
+    (c ≤ n) × (behind ≡ c - 1) × (first ≡ bit (eqb c 0)) × Spread (mapOf s cells) g c bytes₀ bytes
 
--- the layer keeps its length, and has what is seen
-long : (c : tie.After-show-layers) → length (c .show-layers .last .1 .1 .1 .1 .0) ≡ 256
-long c = c .show-layers .kept .1 .1 .1 .1 .0 ∙ ap length (c .before .before .before .seeded .ensures)
+abbrev μ-loop : tie.MeasureT-loop
+μ-loop s cells g bytes₀ n behind₀ first₀ c₀ bytes behind first c = n - c
 
-long-still : (c : tie.After-show-layer) → length (c .show-layer .last .1 .1 .1 .1 .0) ≡ 256
-long-still c = c .show-layer .kept .1 .1 .1 .1 .0 ∙ long (c .before .before .before .before .before .before .before .before)
+small : (c : tie.Start Inv-loop μ-loop) → Inside largest (far (c .args .g))
+small c = let r = c .pre .0 in far-in (c .args .s) (c .args .g) (r .sized) (r .held)
 
-before : (c : tie.After-show-layers) →
+node-requires : tie.Need-node-requires Inv-loop μ-loop
+node-requires c κs =
+    let r = c .before .before .before .pre .0 in
+    (r .sized, r .held, record { x-le = omega arith; y-le = omega arith; z-le = omega arith })
+
+loop-holds : tie.Need-loop-holds Inv-loop μ-loop
+loop-holds c =
+    let s = c .before .before .before .before in
+    let a = s .args in
+    (omega arith, refl, refl, spread-none (mapOf (a .s) (now (a .cells))) (a .g) (s .pre .0) (set (now (a .bytes)) (c .node .result) 1))
+
+-- the bytes keep their length
+long : (c : tie.At-loop Inv-loop μ-loop) → nodes (c .before .before .before .before .before .args .s) ≤ length (c .loop .bytes)
+long c =
+    let s = c .before .before .before .before .before in
+    omega (arith, c .loop .inv .3 .size, length-set (now (s .args .bytes)) (c .before .node .result) 1, s .pre .1)
+
+sweep-layer-requires : tie.Need-sweep-layer-requires Inv-loop μ-loop
+sweep-layer-requires c κs =
+    let h = c .before .before in
+    let l = h .loop in
+    let s = h .before .before .before .before .before in
+    let a = s .args in
+    let t = c .before .loop-test .taken in (
+      spread-laid (mapOf (a .s) (now (a .cells))) (a .g) (s .pre .0) (l .c) (l .behind) (l .bytes) (omega (arith, t)) (l .inv .1) (long h),
+      rw (l .inv .2) (bit-le (eqb (l .c) 0)),
+    )
+
+add-c : tie.Need-add-c Inv-loop μ-loop
+add-c c = omega (arith, small (c .before .before .before .before .before .before .before .before .before .before))
+
+loop-again : tie.Need-loop-again Inv-loop μ-loop
+loop-again c =
+    let w = c .before .before .sweep-layer in
+    let i = c .before .before .before .before in
+    let l = i .before .loop in
+    let n = i .before .before .node in
+    let s = i .before .before .before .before .before .before in
+    let a = s .args in
+    let t = i .loop-test .taken in (
+      omega (arith, t),
+      omega arith,
+      sym (ap bit (ne-eqb (l .c + 1) 0 (λ e. omega arith))),
+      spread-more (mapOf (a .s) (now (a .cells))) (a .g) (s .pre .0) (set (now (a .bytes)) (n .result) 1)
+          (spread-seeds (mapOf (a .s) (now (a .cells))) (a .g) (s .pre .0) (now (a .bytes)) (n .result) (n .ensures .0) (s .pre .1) (s .pre .2))
+          (l .bytes) (w .last .1 .1 .1 .1 .1 .1 .1 .0) (l .c) (l .behind) (l .first) (omega (arith, t)) (l .inv .1) (l .inv .2) (l .inv .3) (w .ensures),
+    )
+
+-- every layer is done
+full : (c : tie.After-loop Inv-loop μ-loop) →
+    let a = c .before .before .before .before .before .before .args in
+    Spread (mapOf (a .s) (now (a .cells))) (a .g) (a .g .z .steps + 1) (now (a .bytes)) (c .before .loop .bytes)
+full c =
     let s = c .before .before .before .before .before .before in
-    (seen : Place → Bool) → Seen (mapOf (s .args .s) (now (s .args .cells))) (s .args .g) seen
-    → Holds (s .args .g) (prior seen (s .args .g .z .steps)) (c .show-layers .last .1 .1 .1 .1 .0)
-before c seen Q =
-    let s = c .before .before .before .before .before .before in
-    c .show-layers .ensures .0 seen Q (rw (c .before .before .before .seeded .ensures) (seed-holds (s .args .g) seen (small s)))
+    let a = s .args in
+    let l = c .before .loop in
+    let e : l .c ≡ a .g .z .steps + 1 = omega arith in
+    let n = c .before .before .node in
+    spread-from (mapOf (a .s) (now (a .cells))) (a .g) (s .pre .0) (now (a .bytes)) (n .result) (n .ensures .0) (l .bytes) (a .g .z .steps + 1) (omega arith)
+    (subst (λ (j : ℕ). Spread (mapOf (a .s) (now (a .cells))) (a .g) j (set (now (a .bytes)) (n .result) 1) (l .bytes)) e (l .inv .3))
 
-mul-k : tie.Need-mul-k
-mul-k c = omega (arith, small (c .before .before))
+ways-in-requires : tie.Need-ways-in-requires Inv-loop μ-loop
+ways-in-requires c κs =
+    let l = c .before .before in
+    let s = l .before .before .before .before .before .before in
+    let a = s .args in
+    rw (c .far .ensures) (
+      room-of (mapOf (a .s) (now (a .cells))) (a .g) (s .pre .0) (l .before .loop .bytes) (long (l .before)),
+      record { x-le = omega arith; y-le = omega arith; z-le = omega arith },
+    )
 
-add-k : tie.Need-add-k
-add-k c = omega (arith, small (c .before .before))
+same-length : tie.Need-same-length Inv-loop μ-loop
+same-length c = full (c .before .before .before) .size
 
-entered-requires : tie.Need-entered-requires
-entered-requires c κs = let e = long (c .before .before .before .before) in omega (arith, small (c .before .before .before .before .before .before .before .before .before .before))
-
-entered-requires-2 : tie.Need-entered-requires-2
-entered-requires-2 c κs = let e = long-still (c .before .before .before .before) in omega (arith, small (c .before .before .before .before .before .before .before .before .before .before .before .before .before .before .before .before .before .before))
-
-entered-requires-3 : tie.Need-entered-requires-3
-entered-requires-3 c κs = let e = long-still (c .before .before .before .before .before .before) in omega (arith, small (c .before .before .before .before .before .before .before .before .before .before .before .before .before .before .before .before .before .before .before .before))
-
-returns : tie.Need-returns
+returns : tie.Need-returns Inv-loop μ-loop
 returns c =
-    let w = c .before .before .before .before .before .before .before in
-    let v = w .before .before .before .before .before .before .before .before in
-    let s = v .before .before .before .before .before .before in
-    let g = s .args .g in
-    let H : (seen : Place → Bool) → Seen (mapOf (s .args .s) (now (s .args .cells))) g seen → Holds g (prior seen (g .z .steps + 1)) (w .show-layer .last .1 .1 .1 .1 .0)
-    = λ seen Q. w .show-layer .ensures .0 seen Q (before v seen Q) in (
-      (λ seen Q.
-          layer-ways g seen (v .show-layers .last .1 .1 .1 .1 .0) (w .show-layer .last .1 .1 .1 .1 .0) (before v seen Q) (H seen Q)
-          (c .before .before .entered2 .result) (c .entered3 .result) (w .before .before .before .entered .result)
-          (c .before .before .entered2 .ensures) (c .entered3 .ensures) (w .before .before .before .entered .ensures)),
-      shown-more (mapOf (s .args .s) (now (s .args .cells))) g (s .pre .0 .held) (g .z .steps) (omega arith) (w .show-layer .last .1 .1 .1 .1 .0)
-          (now (s .args .out)) (v .show-layers .last .1 .1 .1 .1 .1 .0) (w .show-layer .last .1 .1 .1 .1 .1 .0) H (v .show-layers .ensures .1) (w .show-layer .ensures .1),
+    let l = c .before .before .before in
+    let s = l .before .before .before .before .before .before in
+    let a = s .args in
+    let P = full l in (
+      λ seen Q.
+          c .ways-in .ensures ∙ rw (c .before .far .ensures)
+          (ways-in (mapOf (a .s) (now (a .cells))) (a .g) (a .g .z .steps + 1) (now (a .bytes)) (l .before .loop .bytes) P seen Q (far (a .g))
+          (record { x-le = omega arith; y-le = omega arith; z-le = omega arith }) (omega arith)),
+      P,
     )
 
 pub spread-spec : {M : Type 1} → statement M
 spread-spec =
-    tie.close (tie.spec mul-k add-k (λ c κs. search needs) (λ c. search needs) (λ c κs. search needs)
-    (λ c. search needs) entered-requires (λ c. search needs) (λ c κs. search needs) (λ c. search needs)
-    entered-requires-2 (λ c. search needs) entered-requires-3 (λ c. search needs) returns)
+    tie.close (tie.spec Inv-loop μ-loop (λ c. omega (arith, small (c .before .before .before))) node-requires
+    (λ c. omega (arith, c .node .ensures .1, c .before .before .before .before .pre .1)) loop-holds sweep-layer-requires add-c (λ c. omega arith) loop-again
+    (λ c κs. search needs) ways-in-requires same-length returns)

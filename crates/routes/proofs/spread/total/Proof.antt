@@ -19,32 +19,14 @@ loop-holds : tie.Need-loop-holds Inv-loop μ-loop
 unfolding sum
 loop-holds c = (omega arith, refl, omega arith)
 
-shared-slice-read-t : tie.Need-shared-slice-read-t Inv-loop μ-loop
-shared-slice-read-t c = omega arith
-
 bit-at : (c : tie.After-shared-slice-known Inv-loop μ-loop) → getD (now (c .before .before .before .args .out)) (c .before .before .loop .i) 0 ≤ 1
 bit-at c = c .before .before .before .pre .2 (c .before .before .loop .i) (omega arith)
-
-cast-t : tie.Need-cast-t Inv-loop μ-loop
-cast-t c = omega (arith, bit-at c)
-
-add-t : tie.Need-add-t Inv-loop μ-loop
-add-t c = omega (arith, bit-at c)
-
-add-i : tie.Need-add-i Inv-loop μ-loop
-add-i c = omega arith
-
-loop-less : tie.Need-loop-less Inv-loop μ-loop
-loop-less c = omega arith
 
 loop-again : tie.Need-loop-again Inv-loop μ-loop
 loop-again c =
     let l = c .before .before .loop in
     let a = c .before .before .before .args in
     (omega arith, omega (arith, sum-more (l .i) (λ k. getD (now (a .out)) k 0)), omega (arith, bit-at c))
-
-cast-result : tie.Need-cast-result Inv-loop μ-loop
-cast-result c = omega arith
 
 returns : tie.Need-returns Inv-loop μ-loop
 returns c =
@@ -55,16 +37,5 @@ returns c =
 
 pub total-spec : {M : Type 1} → statement M
 total-spec =
-    tie.close
-    (tie.spec
-    Inv-loop
-    μ-loop
-    loop-holds
-    shared-slice-read-t
-    cast-t
-    add-t
-    add-i
-    loop-less
-    loop-again
-    cast-result
-    returns)
+    tie.close (tie.spec Inv-loop μ-loop loop-holds (λ c. omega arith) (λ c. omega (arith, bit-at c)) (λ c. omega (arith, bit-at c)) (λ c. omega arith)
+    (λ c. omega arith) loop-again (λ c. omega arith) returns)

@@ -15,8 +15,7 @@ use Rattle.mesh.specs.declared.Place.{Place}
 use Rattle.routes.specs.Differences.{hops}
 use Rattle.routes.specs.Paths.{leads}
 use Rattle.routes.specs.Box.{between, far}
-use Rattle.routes.specs.Sweep.{waysOf, WaysTo}
-use Rattle.routes.specs.Shown.{Shown}
+use Rattle.routes.specs.Sweep.{Spread, waysOf, WaysTo}
 use Rattle.routes.proofs.Box.{held}
 use Rattle.routes.proofs.Entered.{ways-le}
 use Rattle.routes.proofs.Forward.{behind, from-start}
@@ -42,10 +41,10 @@ ways c =
 shown : (c : tie.After-spread) →
     let s = c .before .before .before .before .before .before .before .before .before .before in
     let g = between (s .args .p) (s .args .e) in
-    Shown (map-of s) g (g .z .steps + 1) (c .before .before .before .before .before .clear .last .0) (c .spread .last .1 .1 .1 .0)
+    Spread (map-of s) g (g .z .steps + 1) (c .before .before .before .before .before .clear .last .0) (c .spread .last .1 .1 .1 .0)
 shown c =
     let s = c .before .before .before .before .before .before .before .before .before .before in
-    subst (λ (g : Between). Shown (map-of s) g (g .z .steps + 1) (c .before .before .before .before .before .clear .last .0) (c .spread .last .1 .1 .1 .0)) (c .before .before .between .ensures) (c .spread .ensures .1)
+    subst (λ (g : Between). Spread (map-of s) g (g .z .steps + 1) (c .before .before .before .before .before .clear .last .0) (c .spread .last .1 .1 .1 .0)) (c .before .before .between .ensures) (c .spread .ensures .1)
 
 cleared : (c : tie.After-clear) →
     let s = c .before .before .before .before .before in
@@ -62,6 +61,7 @@ spread-requires c κs =
       rw (c .before .between .ensures)
           (record { sized = p .sized; whole = p .whole; held = held (a .s) (a .p) (a .e) (p .start-in) (p .end-in) }),
       omega (arith, cleared (c .before .before .before .before) .size, s .pre .1),
+      cleared (c .before .before .before .before) .at,
     )
 
 leads-on-requires : tie.Need-leads-on-requires
