@@ -1,6 +1,7 @@
 // The little that is not proved: which bytes are read, and that those of the text are printed.
 use crate::texting::gossip;
-use mapfile::reader::blank_file;
+use text::running::blank_file;
+use text::running::print_front;
 
 // Reads a map file from a descriptor, and prints the text for it.
 pub fn run(fd: i32) {
@@ -8,5 +9,5 @@ pub fn run(fd: i32) {
     let n = io::read_full(fd, &mut file);
     let mut text = io::large_buffer();
     let k = gossip(&file[..n], &mut text);
-    io::write_all(libc::STDOUT_FILENO, &text[..k]);
+    print_front(&text, k);
 }

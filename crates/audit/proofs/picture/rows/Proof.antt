@@ -5,9 +5,10 @@ use Prim.Native.Nat.{ℕ, _+_, _-_}
 use native.Mathlib.Omega.{arith}
 use denote.Ref.{now}
 use lib.ListN.{length}
-use Rattle.mesh.proofs.Numbers.{nodes-le}
-use Rattle.routes.specs.Box.{rowRun}
-use Rattle.routes.proofs.Box.{widen}
+use Rattle.mesh.specs.Mesh.{nodes}
+use Rattle.mesh.proofs.Numbers.{nodes-le, number-lt}
+use Rattle.routes.specs.Box.{rowRun, reach}
+use Rattle.routes.proofs.Box.{widen, reach-in}
 use Rattle.routes.proofs.Rows.{row-on}
 use Rattle.routes.specs.declared.Run.{Run}
 use Rattle.text.proofs.Saying.{said-as}
@@ -50,7 +51,8 @@ say-row-requires c κs =
     let a = s .args in
     let d = s .pre .0 in
     let r = rowRun (a .s) (a .g) (l .loop .b) (a .c) in
-    let on = row-on (a .s) (a .g) (l .loop .b) (a .c) (d .held) (omega arith) (s .pre .1) in
+    let on = row-on (a .s) (a .g) (d .held) (nodes (a .s)) (l .loop .b) (a .c) (omega arith) (s .pre .1)
+    (λ t w. number-lt (a .s) (reach (a .g) t) (reach-in (a .s) (a .g) t (d .held) w)) in
     rw (row .row .ensures)
     (widen r _ on 4096 (nodes-le (a .s) (d .sized)), widen r _ on (length (now (a .drawn))) (omega (arith, d .whole)), narrow d .x-in, omega arith)
 
