@@ -3,27 +3,25 @@
 use components::Component;
 use components::entry::compute;
 use libc::STDIN_FILENO;
-use libc::STDOUT_FILENO;
 use mapfile::MapRead;
 use mapfile::reader::read_map;
 use marks::entry::marks;
 use mesh::Placed;
 use mesh::Sizes;
 use mesh::entries::place_of;
-
-fn say(word: &[u8], n: usize) {
-    io::write_all(STDOUT_FILENO, word);
-    io::print_decimal(STDOUT_FILENO, n as u64);
-}
+use text::running::print_front;
+use text::tell;
 
 fn say_node(s: Sizes, k: usize, mark: u8, component: u16) {
     if let Placed::Found(p) = place_of(s, k) {
-        say(b"place ", p.x);
-        say(b" ", p.y);
-        say(b" ", p.z);
-        say(b" mark ", mark as usize);
-        say(b" component ", component as usize);
-        io::write_all(STDOUT_FILENO, b"\n");
+        let mut line = io::buffer();
+        let n = tell(
+            b"place % % % mark % component %\n",
+            &[p.x, p.y, p.z, mark as usize, component as usize],
+            &mut line,
+            0,
+        );
+        print_front(&line, n);
     }
 }
 
@@ -36,15 +34,23 @@ fn say_nodes(s: Sizes, marked: &[u8], table: &[u16]) {
 }
 
 fn say_component(i: usize, c: Component) {
-    say(b"component ", i);
-    say(b" nodes ", c.count as usize);
-    say(b" from ", c.x0 as usize);
-    say(b" ", c.y0 as usize);
-    say(b" ", c.z0 as usize);
-    say(b" to ", c.x1 as usize);
-    say(b" ", c.y1 as usize);
-    say(b" ", c.z1 as usize);
-    io::write_all(STDOUT_FILENO, b"\n");
+    let mut line = io::buffer();
+    let n = tell(
+        b"component % nodes % from % % % to % % %\n",
+        &[
+            i,
+            c.count as usize,
+            c.x0 as usize,
+            c.y0 as usize,
+            c.z0 as usize,
+            c.x1 as usize,
+            c.y1 as usize,
+            c.z1 as usize,
+        ],
+        &mut line,
+        0,
+    );
+    print_front(&line, n);
 }
 
 fn say_components(records: [Component; 1024], count: usize) {
@@ -56,7 +62,7 @@ fn say_components(records: [Component; 1024], count: usize) {
 }
 
 fn say_map(s: Sizes, cells: &[u8]) {
-    let mut marked = [0u8; 4096];
+    let mut marked = io::buffer();
     let mut table = [0u16; 4096];
     marks(s, cells, 0, &mut marked);
     let found = compute(s, cells, 0, &mut table, 4096);
@@ -68,7 +74,7 @@ fn say_map(s: Sizes, cells: &[u8]) {
 fn main() {
     let mut file = io::large_buffer();
     let n = io::read_full(STDIN_FILENO, &mut file);
-    let mut cells = [0u8; 4096];
+    let mut cells = io::buffer();
     if let MapRead::Read(s) = read_map(&file[..n], &mut cells) {
         let n = s.nodes();
         say_map(s, &cells[..n]);
