@@ -11,7 +11,7 @@ ghost use lib.ListN.{getD};
 ghost use Rattle.mesh.specs.Mesh.{InRange};
 ghost use Rattle.gossiping.specs.Chance.{chosen};
 ghost use Rattle.gossiping.specs.Links.{links, net, Fit, Going};
-ghost use Rattle.gossiping.specs.Rounds.{strides, visits, lossyRound, fullRound, oneRound};
+ghost use Rattle.gossiping.specs.Rounds.{strides, lossyRound, fullRound, oneRound};
 
 // Primes, and more than there are links.
 const STRIDES: [usize; 4] = [24593, 24611, 24623, 24631];
@@ -34,37 +34,20 @@ fn stride(g: usize) -> usize
     STRIDES[chosen(4, g)]
 }
 
-// A visit to each link, from the first on.
-fn visits(
-    s: Sizes,
-    o: usize,
-    first: usize,
-    stride: usize,
-    state: &mut [u8],
-    way: &mut [u8],
-    drawn: usize,
-) -> usize
-    requires { ⌜ Going s o (net (now state) (now way) drawn) × (first < 24576) × (stride ≤ 24631) ⌝ }
-    ensures { λ r. ⌜ net (now (state .exit)) (now (way .exit)) r
-        ≡ visits s o first stride (net (now (state .entry)) (now (way .entry)) drawn) (links s) ⌝ }
-{
-    let n = links(s);
-    let mut last = drawn;
-    for i in 0..n {
-        last = visit(s, o, (first + stride * i) % n, state, way, last);
-    }
-    last
-}
-
-// A round with loss, in an order that two numbers choose.
+// A round with loss: a visit to each link, in an order that two numbers choose.
 fn lossy_round(s: Sizes, o: usize, state: &mut [u8], way: &mut [u8], drawn: usize) -> usize
     requires { ⌜ Going s o (net (now state) (now way) drawn) ⌝ }
     ensures { λ r. ⌜ net (now (state .exit)) (now (way .exit)) r ≡ lossyRound s o (net (now (state .entry)) (now (way .entry)) drawn) ⌝ }
 {
     let g = following(drawn);
-    let h = following(g);
-    let first = chosen(links(s), g);
-    visits(s, o, first, stride(h), state, way, h)
+    let mut last = following(g);
+    let n = links(s);
+    let first = chosen(n, g);
+    let step = stride(last);
+    for i in 0..n {
+        last = visit(s, o, (first + step * i) % n, state, way, last);
+    }
+    last
 }
 
 // A full round: over each link in turn comes what its speaker holds then.
