@@ -32,7 +32,7 @@ unfolding linked
 linked-to m p q j h = rw h tt
 
 -- one direction of each axis passes no test: six directions are three
-pub any-axes : (f : ℕ → Bool) (off : Axis → Bool) → ((a : Axis) → f (along a (off a)) ≡ false)
+any-axes : (f : ℕ → Bool) (off : Axis → Bool) → ((a : Axis) → f (along a (off a)) ≡ false)
     → any 6 f ≡ (f (along X (not (off X))) || f (along Y (not (off Y))) || f (along Z (not (off Z))))
 any-axes f off none = bool-ext (any 6 f) (at X || at Y || at Z)
     (λ t.

@@ -42,7 +42,7 @@ module _ (r : Run) (n : ℕ) (o : OnAxis r n) where
   pub widen : (k : ℕ) → n ≤ k → OnAxis r k
   widen k h = record { starts = omega (arith, o .starts); low = o .low; high = λ e. omega (arith, o .high e) }
 
-pub run-on : (c b n : ℕ) → c < n → b < n → OnAxis (run c b) n
+run-on : (c b n : ℕ) → c < n → b < n → OnAxis (run c b) n
 run-on c b n hc hb = record {
   starts = hc;
   low = λ e. omega (arith, size-is c b, ltb-true b c e);

@@ -1,5 +1,5 @@
 -- The sweep, row by row and layer by layer: what a row leaves in the bytes is what is seen from the corner. Assumes nothing.
-use mathlib.Core.Path.{_≡_, refl, sym, ap, _∙_, subst}
+use mathlib.Core.Path.{_≡_, refl, sym, ap, _∙_}
 use mathlib.Core.Logic.{inl, inr}
 use mathlib.Core.Bool.{Bool, true, false, cond, _&&_, _||_}
 use mathlib.Core.List.{List}
@@ -11,15 +11,15 @@ use lib.Seq.{getD-set-same, getD-set-other}
 use lib.Dec.{ltb, eqb}
 use borrow.Author.Tests.{ltb-true, ltb-false, lt-ltb, le-ltb, eqb-true, eqb-false, ne-eqb}
 use Rattle.mesh.specs.Tools.{bit}
-use Rattle.mesh.specs.Mesh.{place, nodes, number}
+use Rattle.mesh.specs.Mesh.{place, number}
 use Rattle.mesh.specs.Cells.{mayPass}
 use Rattle.mesh.proofs.Bits.{bit-and, bit-or}
 use Rattle.mesh.proofs.Numbers.{number-lt, nodes-le}
 use Rattle.mesh.specs.declared.Sizes.{Sizes}
 use Rattle.mesh.specs.declared.Place.{Place}
 use Rattle.routes.specs.Box.{gone, reach, rowRun, Within, OnAxis, Held}
-use Rattle.routes.specs.Sweep.{spot, joined, beside, Beside, Rows, leading, Row, Room, Laid, Wave, Layer}
-use Rattle.routes.proofs.Box.{reach-in, gone-same, node-same, widen}
+use Rattle.routes.specs.Sweep.{spot, joined, beside, Beside, Rows, leading, Row, Laid, Wave, Layer}
+use Rattle.routes.proofs.Box.{reach-in, gone-same, node-same}
 use Rattle.routes.specs.declared.Run.{Run}
 use Rattle.routes.specs.declared.Between.{Between}
 
@@ -83,7 +83,7 @@ module _ (cells old new : List ℕ) (r : Run) (base y z from a : ℕ) (R : Row c
 -- ---- the rows of a box
 
 module _ (S : Sizes) (g : Between) (h : Held S g) where
-  pub gone-row : (a b c : ℕ) → a ≤ g .x .steps → gone (rowRun S g b c) a ≡ spot S g a b c
+  gone-row : (a b c : ℕ) → a ≤ g .x .steps → gone (rowRun S g b c) a ≡ spot S g a b c
   gone-row a b c l = split (g .x .down) refl
     where
       rest : ℕ
@@ -101,7 +101,7 @@ module _ (S : Sizes) (g : Between) (h : Held S g) where
       (ap (λ (t : Place). t .x) q, ap (λ (t : Place). t .y) q, ap (λ (t : Place). t .z) q)
 
   -- a row stays where its nodes stand
-  pub row-on : (n b c : ℕ) → b ≤ g .y .steps → c ≤ g .z .steps → ((t : Place) → Within g t → number S (reach g t) < n) → OnAxis (rowRun S g b c) n
+  row-on : (n b c : ℕ) → b ≤ g .y .steps → c ≤ g .z .steps → ((t : Place) → Within g t → number S (reach g t) < n) → OnAxis (rowRun S g b c) n
   row-on n b c hb hc fits =
       let at : (a : ℕ) → a ≤ g .x .steps → spot S g a b c < n
       = λ a l. fits (place a b c) (record { x-le = l; y-le = hb; z-le = hc }) in
@@ -122,7 +122,7 @@ layerOf b k behind = cond (eqb b 0) behind k
 abbrev pub fromOf : ℕ → ℕ → ℕ
 fromOf first b = cond (eqb b 0) first 0
 
-pub layer-of : (b k behind n : ℕ) → k ≤ n → behind ≤ n → layerOf b k behind ≤ n
+layer-of : (b k behind n : ℕ) → k ≤ n → behind ≤ n → layerOf b k behind ≤ n
 layer-of b k behind n h l = split (eqb b 0)
   where
     split : (t : Bool) → cond t behind k ≤ n

@@ -16,7 +16,6 @@ use Rattle.mesh.specs.Fill.{Filled}
 use Rattle.mesh.proofs.Tests.{holds-true}
 use Rattle.mesh.proofs.Numbers.{nodes-le}
 use Rattle.mesh.specs.declared.Sizes.{Sizes}
-use Rattle.mesh.specs.declared.Place.{Place}
 use Rattle.routes.specs.Differences.{hops}
 use Rattle.routes.specs.Paths.{leads}
 use Rattle.routes.specs.Box.{between, reach, far}
