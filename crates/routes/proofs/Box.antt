@@ -69,7 +69,8 @@ reach-in S g t h w = record {
 }
 
 -- two places of a box with one number are as many steps away
-pub node-same : (S : Sizes) (g : Between) → Held S g → (t t′ : Place) → Within g t → Within g t′ → number S (reach g t) ≡ number S (reach g t′) → t ≡ t′
+pub node-same : (S : Sizes) (g : Between) → Held S g → (t t′ : Place) → Within g t → Within g t′
+    → number S (reach g t) ≡ number S (reach g t′) → t ≡ t′
 node-same S g h t t′ w w′ e =
     let q = number-eq S (reach g t) (reach g t′) (reach-in S g t h w) (reach-in S g t′ h w′) e in
     place-eq t t′

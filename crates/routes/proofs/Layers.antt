@@ -144,7 +144,8 @@ module _ (m : Map) (g : Between) (r : Ready (m .sizes) (m .cells) g) (c : ℕ) (
 pub layers-none : (m : Map) (g : Between) (i : ℕ) (old : List ℕ) → Layers m g i i old old
 layers-none m g i old = record { holds = λ seen Q H. H; size = refl }
 
-pub layers-more : (m : Map) (g : Between) (i j n : ℕ) (old mid new : List ℕ) → Layers m g i j old mid → Layers m g j n mid new → Layers m g i n old new
+pub layers-more : (m : Map) (g : Between) (i j n : ℕ) (old mid new : List ℕ) → Layers m g i j old mid → Layers m g j n mid new
+    → Layers m g i n old new
 layers-more m g i j n old mid new L K = record { holds = λ seen Q H. K .holds seen Q (L .holds seen Q H); size = K .size ∙ L .size }
 
 -- ---- each layer at its own nodes
@@ -217,7 +218,8 @@ module _ (m : Map) (g : Between) (r : Ready (m .sizes) (m .cells) g) where
     }
 
 -- where each node of the box has the value that is right there, no right value is lost
-pub spread-safe : (m : Map) (g : Between) (old new : List ℕ) → Spread m g (g .z .steps + 1) old new → (seen : Place → Bool) → Seen m g seen → (k x : ℕ)
+pub spread-safe : (m : Map) (g : Between) (old new : List ℕ) → Spread m g (g .z .steps + 1) old new → (seen : Place → Bool)
+    → Seen m g seen → (k x : ℕ)
     → ((t : Place) → Within g t → k ≡ number (m .sizes) (reach g t) → bit (seen t) ≡ x) → getD old k 0 ≡ x → getD new k 0 ≡ x
 spread-safe m g old new P seen Q k x right e = elim (tried (any (g .x .steps + 1) on-x)) [
   | inl u ↦

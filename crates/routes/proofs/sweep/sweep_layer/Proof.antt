@@ -8,7 +8,7 @@ use Rattle.mesh.specs.Mesh.{Inside}
 use Rattle.routes.specs.Box.{largest, far, rowRun}
 use Rattle.routes.specs.Sweep.{spot, Row, Layer}
 use Rattle.routes.proofs.Box.{far-in}
-use Rattle.routes.proofs.Rows.{layerOf, fromOf, from-le, from-first, from-next, row-next, rows-of, layer-none, layer-more}
+use Rattle.routes.proofs.Waves.{layerOf, fromOf, from-le, from-first, from-next, row-next, rows-of, layer-none, layer-more}
 use Rattle.routes.specs.declared.Run.{Run}
 use Rattle.routes.proofs.sweep.sweep_layer.Statement.{statement}
 use Rattle.routes.proofs.sweep.sweep_layer.Tie as tie
