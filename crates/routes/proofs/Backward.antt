@@ -32,7 +32,7 @@ unfolding linked
 linked-to m p q j h = rw h tt
 
 -- one direction of each axis passes no test: six directions are three
-pub any-axes : (f : ℕ → Bool) (off : Axis → Bool) → ((a : Axis) → f (along a (off a)) ≡ false)
+any-axes : (f : ℕ → Bool) (off : Axis → Bool) → ((a : Axis) → f (along a (off a)) ≡ false)
     → any 6 f ≡ (f (along X (not (off X))) || f (along Y (not (off Y))) || f (along Z (not (off Z))))
 any-axes f off none = bool-ext (any 6 f) (at X || at Y || at Z)
     (λ t.
@@ -72,7 +72,8 @@ module _ (m : Map) (s e : Place) (s-in : Inside (m .sizes) s) (e-in : Inside (m 
   wanted-back : (t : Place) → Within g t → (a : Axis) → preferred (reach g t) e (along a (back a)) ≡ ltb 0 (on t a)
   wanted-back t w a = preferred-along (reach g t) e a (back a) ∙ lies-back e s t w a
 
-  pub step-back : (t : Place) → Within g t → (a : Axis) → 0 < on t a → next (m .sizes) (reach g t) (along a (back a)) ≡ At (reach g (put a t (on t a - 1)))
+  pub step-back : (t : Place) → Within g t → (a : Axis) → 0 < on t a
+      → next (m .sizes) (reach g t) (along a (back a)) ≡ At (reach g (put a t (on t a - 1)))
   step-back t w a h =
       let p : T (preferred (reach g t) e (along a (back a))) = rw (wanted-back t w a) (lt→ltb 0 (on t a) h) in
       let (q, k) = preferred-next (m .sizes) (reach g t) e (node-in t w) e-in (along a (back a)) p in
@@ -148,7 +149,8 @@ module _ (m : Map) (s e : Place) (s-in : Inside (m .sizes) s) (e-in : Inside (m 
         rest : Place → Bool
         rest r = leads m e r e
 
-        at : (a : Axis) → on t a - 1 ≤ runOn g a .steps → begins m e rest (reach g t) (along a (back a)) ≡ (ltb 0 (on t a) && ahead (put a t (on t a - 1)))
+        at : (a : Axis) → on t a - 1 ≤ runOn g a .steps
+            → begins m e rest (reach g t) (along a (back a)) ≡ (ltb 0 (on t a) && ahead (put a t (on t a - 1)))
         at a h = begins-back rest t w a ∙ ap (λ (v : Bool). ltb 0 (on t a) && v) (ahead-is (put a t (on t a - 1)) (within-put g t w a (on t a - 1) h))
 
     pub from-end : Seen m g ahead
@@ -162,7 +164,8 @@ module _ (m : Map) (s e : Place) (s-in : Inside (m .sizes) s) (e-in : Inside (m 
         at-origin t off = bool-ext (same t origin) false (λ h. off (same-iff t origin .0 h)) (λ h. absurd h)
 
     -- the directions that a node of the box is offered: those back to the end, where the node one step nearer is seen
-    pub offers-back : (t : Place) → Within g t → (a : Axis) → offers m e (reach g t) (along a (back a)) ≡ (ltb 0 (on t a) && ahead (put a t (on t a - 1)))
+    pub offers-back : (t : Place) → Within g t → (a : Axis)
+        → offers m e (reach g t) (along a (back a)) ≡ (ltb 0 (on t a) && ahead (put a t (on t a - 1)))
     unfolding offers
     offers-back t w a =
         begins-back (λ r. leads m e r e) t w a

@@ -42,7 +42,7 @@ module _ (r : Run) (n : ℕ) (o : OnAxis r n) where
   pub widen : (k : ℕ) → n ≤ k → OnAxis r k
   widen k h = record { starts = omega (arith, o .starts); low = o .low; high = λ e. omega (arith, o .high e) }
 
-pub run-on : (c b n : ℕ) → c < n → b < n → OnAxis (run c b) n
+run-on : (c b n : ℕ) → c < n → b < n → OnAxis (run c b) n
 run-on c b n hc hb = record {
   starts = hc;
   low = λ e. omega (arith, size-is c b, ltb-true b c e);
@@ -69,7 +69,8 @@ reach-in S g t h w = record {
 }
 
 -- two places of a box with one number are as many steps away
-pub node-same : (S : Sizes) (g : Between) → Held S g → (t t′ : Place) → Within g t → Within g t′ → number S (reach g t) ≡ number S (reach g t′) → t ≡ t′
+pub node-same : (S : Sizes) (g : Between) → Held S g → (t t′ : Place) → Within g t → Within g t′
+    → number S (reach g t) ≡ number S (reach g t′) → t ≡ t′
 node-same S g h t t′ w w′ e =
     let q = number-eq S (reach g t) (reach g t′) (reach-in S g t h w) (reach-in S g t′ h w′) e in
     place-eq t t′

@@ -110,7 +110,7 @@ module _ (p e : Place) where
   preferred-along Z true = or-3 (other X 5 refl refl) (other Y 5 refl refl) (way-down 4 (p .z) (e .z))
 
   -- there are six directions
-  pub preferred-lt : (j : ℕ) → T (preferred p e j) → j < 6
+  preferred-lt : (j : ℕ) → T (preferred p e j) → j < 6
   unfolding preferred
   preferred-lt j t = split (ltb j 6) refl
     where

@@ -61,7 +61,7 @@ same-along S p r i a b c d f h k =
     let e : go c (on p a) ≡ go d (on p a) = sym (on-put a p (go c (on p a))) ∙ ap (λ (q : Place). on q a) (sym q ∙ w) ∙ on-put a p (go d (on p a)) in
     rw (f, same-way c d (on p a) (span S a) t u e)
 
-pub next-only : (S : Sizes) (p r : Place) → Inside S p → (j k : ℕ) → next S p j ≡ At r → next S p k ≡ At r → j ≡ k
+next-only : (S : Sizes) (p r : Place) → Inside S p → (j k : ℕ) → next S p j ≡ At r → next S p k ≡ At r → j ≡ k
 next-only S p r i j k h g =
     let (a, c, f) = dir-of j (dir-led S p r j h) in
     let (b, d, f′) = dir-of k (dir-led S p r k g) in

@@ -22,7 +22,8 @@ use Rattle.routes.specs.declared.Between.{Between}
 
 module _ (S : Sizes) (g : Between) (bytes : List ℕ) (t : Place) (left x y z : ℕ) where
   -- the byte one step nearer says whether there is a step left and what is seen there
-  entered-is : (p : Place) (v : Bool) → (0 < left → place (t .x - x) (t .y - y) (t .z - z) ≡ p) → (0 < left → getD bytes (number S (reach g p)) 0 ≡ bit v)
+  entered-is : (p : Place) (v : Bool) → (0 < left → place (t .x - x) (t .y - y) (t .z - z) ≡ p)
+      → (0 < left → getD bytes (number S (reach g p)) 0 ≡ bit v)
       → entered S g bytes t left x y z ≡ bit (ltb 0 left && v)
   entered-is p v e h = split (ltb 0 left) refl
     where

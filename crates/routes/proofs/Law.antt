@@ -44,7 +44,7 @@ entered m e r w t = elim (tried (same r e)) [
 
 -- ---- the way runs ahead
 
-pub ahead-iff : (S : Sizes) (o : ℕ) (p e : Place) → T (aheadOrLevel S o p e) ↔ ((a : Axis) → T (counted S a) → T (notBehind o p e a))
+ahead-iff : (S : Sizes) (o : ℕ) (p e : Place) → T (aheadOrLevel S o p e) ↔ ((a : Axis) → T (counted S a) → T (notBehind o p e a))
 unfolding aheadOrLevel
 ahead-iff S o p e = (
   λ t a. T-implies (counted S a) (notBehind o p e a) .0 (T-every (λ a. implies (counted S a) (notBehind o p e a)) .0 t a),

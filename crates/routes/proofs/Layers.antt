@@ -10,7 +10,7 @@ use native.Mathlib.Omega.{arith}
 use lib.ListN.{length, getD, set, replicate, length-set, length-replicate, getD-replicate}
 use lib.Seq.{getD-set-same, getD-set-other}
 use lib.Dec.{ltb, eqb}
-use borrow.Author.Tests.{lt-ltb, eqb-true, eqb-false, ne-eqb}
+use borrow.Author.Tests.{lt-ltb, eqb-true, ne-eqb}
 use Rattle.mesh.specs.Tools.{bit, any}
 use Rattle.mesh.specs.Mesh.{InRange, place, nodes, number}
 use Rattle.mesh.specs.Cells.{Map, cellAt, mayPass}
@@ -19,7 +19,7 @@ use Rattle.mesh.proofs.Numbers.{number-lt, digit-lt, layer-le}
 use Rattle.mesh.specs.declared.Sizes.{Sizes}
 use Rattle.mesh.specs.declared.Place.{Place}
 use Rattle.routes.specs.Box.{gone, reach, Within, Held}
-use Rattle.routes.specs.Sweep.{entry, Seen, spot, flat, prior, Room, Laid, Wave, Layer, Holds, Layers, Blank, Spread, Ready, seed}
+use Rattle.routes.specs.Sweep.{Seen, spot, flat, prior, Room, Laid, Wave, Layer, Holds, Layers, Blank, Spread, Ready, seed}
 use Rattle.routes.proofs.Box.{reach-in, gone-lt}
 use Rattle.routes.proofs.Differences.{place-eq}
 use Rattle.routes.proofs.Rows.{spot-same}
@@ -31,7 +31,7 @@ pub seed-length : (corner : ℕ) → length (seed corner) ≡ 256
 seed-length corner = length-set (replicate 256 0) corner 1 ∙ length-replicate {A = ℕ} 256 0
 
 -- only the corner is seen
-pub seeded-at : (S : Sizes) (g : Between) → Held S g → (bytes : List ℕ) → spot S g 0 0 0 < length bytes
+seeded-at : (S : Sizes) (g : Between) → Held S g → (bytes : List ℕ) → spot S g 0 0 0 < length bytes
     → ((a b : ℕ) → a ≤ g .x .steps → b ≤ g .y .steps → getD bytes (spot S g a b 0) 0 ≡ 0)
     → (a b : ℕ) → a ≤ g .x .steps → b ≤ g .y .steps → getD (set bytes (spot S g 0 0 0) 1) (spot S g a b 0) 0 ≡ bit (eqb a 0 && eqb b 0)
 seeded-at S g h bytes l blank zero zero la lb = getD-set-same bytes (spot S g 0 0 0) 1 0 l
@@ -116,7 +116,7 @@ module _ (S : Sizes) (g : Between) (r : InRange S) (h : Held S g) where
   flat-le c = omega (arith, flat-number 0 0 0 refl, deep-number 0 0 c)
 
   -- the cells of a layer begin so much further on
-  pub flat-cell : (a b c : ℕ) → spot S g 0 0 c - spot S (flat g) 0 0 0 + spot S (flat g) a b 0 ≡ spot S g a b c
+  flat-cell : (a b c : ℕ) → spot S g 0 0 c - spot S (flat g) 0 0 0 + spot S (flat g) a b 0 ≡ spot S g a b c
   flat-cell a b c = omega (arith, flat-number 0 0 0 refl, flat-number a b 0 refl, deep-number 0 0 c, deep-number a b c)
 
 module _ (m : Map) (g : Between) (r : Ready (m .sizes) (m .cells) g) (c : ℕ) (hc : c ≤ g .z .steps) where
@@ -144,7 +144,8 @@ module _ (m : Map) (g : Between) (r : Ready (m .sizes) (m .cells) g) (c : ℕ) (
 pub layers-none : (m : Map) (g : Between) (i : ℕ) (old : List ℕ) → Layers m g i i old old
 layers-none m g i old = record { holds = λ seen Q H. H; size = refl }
 
-pub layers-more : (m : Map) (g : Between) (i j n : ℕ) (old mid new : List ℕ) → Layers m g i j old mid → Layers m g j n mid new → Layers m g i n old new
+pub layers-more : (m : Map) (g : Between) (i j n : ℕ) (old mid new : List ℕ) → Layers m g i j old mid → Layers m g j n mid new
+    → Layers m g i n old new
 layers-more m g i j n old mid new L K = record { holds = λ seen Q H. K .holds seen Q (L .holds seen Q H); size = K .size ∙ L .size }
 
 -- ---- each layer at its own nodes
@@ -217,7 +218,8 @@ module _ (m : Map) (g : Between) (r : Ready (m .sizes) (m .cells) g) where
     }
 
 -- where each node of the box has the value that is right there, no right value is lost
-pub spread-safe : (m : Map) (g : Between) (old new : List ℕ) → Spread m g (g .z .steps + 1) old new → (seen : Place → Bool) → Seen m g seen → (k x : ℕ)
+pub spread-safe : (m : Map) (g : Between) (old new : List ℕ) → Spread m g (g .z .steps + 1) old new → (seen : Place → Bool)
+    → Seen m g seen → (k x : ℕ)
     → ((t : Place) → Within g t → k ≡ number (m .sizes) (reach g t) → bit (seen t) ≡ x) → getD old k 0 ≡ x → getD new k 0 ≡ x
 spread-safe m g old new P seen Q k x right e = elim (tried (any (g .x .steps + 1) on-x)) [
   | inl u ↦

@@ -2,6 +2,7 @@ pub mod Differences
 pub mod Box
 pub mod Runs
 pub mod Rows
+pub mod Waves
 pub mod Layers
 pub mod Entered
 pub mod Backward

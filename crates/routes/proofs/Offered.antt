@@ -131,7 +131,7 @@ module _ (m : Map) (e : Place) where
       hop j h (rw f at y) (lowest-leads L (next-in (m .sizes) p r i j h))
 
   -- where a path leads on from a node that is not the end, one begins in some direction
-  pub offers-some : (p : Place) → Inside (m .sizes) p → (p ≡ e → ⊥) → T (leads m e p e) → (j : ℕ) × (j < 6) × T (offers m e p j)
+  offers-some : (p : Place) → Inside (m .sizes) p → (p ≡ e → ⊥) → T (leads m e p e) → (j : ℕ) × (j < 6) × T (offers m e p j)
   offers-some p i ne t = split (leads-iff m e p e i .0 t .1)
     where
       split : {l : List ℕ} → Leads m e p e l → (j : ℕ) × (j < 6) × T (offers m e p j)

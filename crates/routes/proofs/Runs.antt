@@ -23,21 +23,21 @@ ltb-same a b c d f g = bool-ext (ltb a b) (ltb c d) (λ t. lt→ltb c d (f (ltb�
 
 module _ (c b i : ℕ) (h : i ≤ natAbs (subℕ b c)) where
   -- back to where it began
-  pub back-lies : lies (not (ltb b c)) (gone (run c b) i) c ≡ ltb 0 i
+  back-lies : lies (not (ltb b c)) (gone (run c b) i) c ≡ ltb 0 i
   back-lies = split (ltb b c) refl
     where
       split : (t : Bool) → ltb b c ≡ t → lies (not t) (cond t (c - i) (c + i)) c ≡ ltb 0 i
       split true e = ltb-same (c - i) c 0 i (omega arith) (omega (arith, size-is c b, ltb-true b c e))
       split false e = ltb-same c (c + i) 0 i (omega arith) (omega arith)
 
-  pub back-not : lies (ltb b c) (gone (run c b) i) c ≡ false
+  back-not : lies (ltb b c) (gone (run c b) i) c ≡ false
   back-not = split (ltb b c) refl
     where
       split : (t : Bool) → ltb b c ≡ t → lies t (cond t (c - i) (c + i)) c ≡ false
       split true e = le-ltb c (c - i) (omega arith)
       split false e = le-ltb (c + i) c (omega arith)
 
-  pub back-go : 0 < i → go (not (ltb b c)) (gone (run c b) i) ≡ gone (run c b) (i - 1)
+  back-go : 0 < i → go (not (ltb b c)) (gone (run c b) i) ≡ gone (run c b) (i - 1)
   back-go k = split (ltb b c) refl
     where
       split : (t : Bool) → ltb b c ≡ t → go (not t) (cond t (c - i) (c + i)) ≡ cond t (c - (i - 1)) (c + (i - 1))
@@ -45,42 +45,42 @@ module _ (c b i : ℕ) (h : i ≤ natAbs (subℕ b c)) where
       split false e = omega arith
 
   -- on to where it ends
-  pub on-lies : lies (ltb b c) (gone (run c b) i) b ≡ ltb i (natAbs (subℕ b c))
+  on-lies : lies (ltb b c) (gone (run c b) i) b ≡ ltb i (natAbs (subℕ b c))
   on-lies = split (ltb b c) refl
     where
       split : (t : Bool) → ltb b c ≡ t → lies t (cond t (c - i) (c + i)) b ≡ ltb i (natAbs (subℕ b c))
       split true e = ltb-same b (c - i) i (natAbs (subℕ b c)) (omega (arith, size-is c b, ltb-true b c e)) (omega (arith, size-is c b, ltb-true b c e))
       split false e = ltb-same (c + i) b i (natAbs (subℕ b c)) (omega (arith, size-is c b, ltb-false b c e)) (omega (arith, size-is c b, ltb-false b c e))
 
-  pub on-not : lies (not (ltb b c)) (gone (run c b) i) b ≡ false
+  on-not : lies (not (ltb b c)) (gone (run c b) i) b ≡ false
   on-not = split (ltb b c) refl
     where
       split : (t : Bool) → ltb b c ≡ t → lies (not t) (cond t (c - i) (c + i)) b ≡ false
       split true e = le-ltb (c - i) b (omega (arith, size-is c b, ltb-true b c e))
       split false e = le-ltb b (c + i) (omega (arith, size-is c b, ltb-false b c e))
 
-  pub on-go : i < natAbs (subℕ b c) → go (ltb b c) (gone (run c b) i) ≡ gone (run c b) (i + 1)
+  on-go : i < natAbs (subℕ b c) → go (ltb b c) (gone (run c b) i) ≡ gone (run c b) (i + 1)
   on-go k = split (ltb b c) refl
     where
       split : (t : Bool) → ltb b c ≡ t → go t (cond t (c - i) (c + i)) ≡ cond t (c - (i + 1)) (c + (i + 1))
       split true e = omega (arith, size-is c b, ltb-true b c e)
       split false e = omega arith
 
-  pub gone-eq : (j : ℕ) → j ≤ natAbs (subℕ b c) → gone (run c b) i ≡ gone (run c b) j → i ≡ j
+  gone-eq : (j : ℕ) → j ≤ natAbs (subℕ b c) → gone (run c b) i ≡ gone (run c b) j → i ≡ j
   gone-eq j k = split (ltb b c) refl
     where
       split : (t : Bool) → ltb b c ≡ t → cond t (c - i) (c + i) ≡ cond t (c - j) (c + j) → i ≡ j
       split true e q = omega (arith, size-is c b, ltb-true b c e)
       split false e q = omega arith
 
-pub gone-first : (c b : ℕ) → gone (run c b) 0 ≡ c
+gone-first : (c b : ℕ) → gone (run c b) 0 ≡ c
 gone-first c b = split (ltb b c)
   where
     split : (t : Bool) → cond t (c - 0) (c + 0) ≡ c
     split true = omega arith
     split false = omega arith
 
-pub gone-last : (c b : ℕ) → gone (run c b) (natAbs (subℕ b c)) ≡ b
+gone-last : (c b : ℕ) → gone (run c b) (natAbs (subℕ b c)) ≡ b
 gone-last c b = split (ltb b c) refl
   where
     split : (t : Bool) → ltb b c ≡ t → cond t (c - natAbs (subℕ b c)) (c + natAbs (subℕ b c)) ≡ b
@@ -93,16 +93,6 @@ abbrev pub runOn : Between → Axis → Run
 runOn g X = g .x
 runOn g Y = g .y
 runOn g Z = g .z
-
-pub on-reach : (g : Between) (t : Place) (a : Axis) → on (reach g t) a ≡ gone (runOn g a) (on t a)
-on-reach g t X = refl
-on-reach g t Y = refl
-on-reach g t Z = refl
-
-pub put-reach : (g : Between) (t : Place) (a : Axis) (i : ℕ) → put a (reach g t) (gone (runOn g a) i) ≡ reach g (put a t i)
-put-reach g t X i = refl
-put-reach g t Y i = refl
-put-reach g t Z i = refl
 
 pub on-put : (a : Axis) (t : Place) (i : ℕ) → on (put a t i) a ≡ i
 on-put X t i = refl

@@ -97,7 +97,7 @@ module _ (m : Map) (s e : Place) (s-in : Inside (m .sizes) s) (e-in : Inside (m 
             ∙ sym (reached-byte m s e k i)
 
 -- what is written in front, byte by byte
-pub front-byte : (m : Map) (s e : Place) (old new : List ℕ) → new ≡ reached m s e ++ drop (nodes (m .sizes)) old
+front-byte : (m : Map) (s e : Place) (old new : List ℕ) → new ≡ reached m s e ++ drop (nodes (m .sizes)) old
     → (k : ℕ) → k < nodes (m .sizes) → getD new k 0 ≡ bit (reachedAt m s e k)
 front-byte m s e old new f k l =
     ap (λ (l : List ℕ). getD l k 0) f

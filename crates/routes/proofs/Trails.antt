@@ -54,7 +54,8 @@ none-here : (f : ℕ → Bool) (a : Axis) (o : Bool) → f (along a o) ≡ false
 none-here f a true e h = h
 none-here f a false e h = rw (up a) (one-more f (along a false) e h)
 
-none-past : (f : ℕ → Bool) (a : Axis) (o : Bool) → f (along a o) ≡ false → f (along a (not o)) ≡ false → NoneBelow f (along a false) → NoneBelow f (along a true + 1)
+none-past : (f : ℕ → Bool) (a : Axis) (o : Bool) → f (along a o) ≡ false → f (along a (not o)) ≡ false → NoneBelow f (along a false)
+    → NoneBelow f (along a true + 1)
 none-past f a true e e′ h = one-more f (along a true) e (rw (up a) (one-more f (along a false) e′ h))
 none-past f a false e e′ h = one-more f (along a true) e′ (rw (up a) (one-more f (along a false) e h))
 

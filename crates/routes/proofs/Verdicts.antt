@@ -1,12 +1,11 @@
 -- What the checks of a route decide, in the promise's words: passed exactly if the question is in order, both ends work and a path joins
--- them; refused by 10 exactly if only the path is missing, and then every walk is longer than the Manhattan distance. No earlier check
--- refuses by so high a number, so a refusal by 9 or by 10 tells that all before it have passed. Assumes nothing.
+-- them; refused by 10 exactly if only the path is missing. No earlier check refuses by so high a number, so a refusal by 9 or by 10 tells
+-- that all before it have passed. Assumes nothing.
 use mathlib.Core.Path.{_≡_, refl, sym, _∙_, subst}
-use mathlib.Core.Logic.{_↔_, inl, inr}
+use mathlib.Core.Logic.{_↔_}
 use mathlib.Core.Bool.{Bool, true, false, cond, not}
 use mathlib.Core.List.{List}
-use Prim.Native.Nat.{ℕ, _+_, _<_, _≤_}
-use native.Mathlib.Nat.{eq-or-lt-of-le}
+use Prim.Native.Nat.{ℕ, _<_, _≤_}
 use native.Mathlib.Omega.{arith}
 use lib.ListN.{length, getD}
 use lib.Dec.{T, eqb, ltb}
@@ -18,17 +17,14 @@ use Rattle.mesh.proofs.Tests.{holds-true, bool-ext}
 use Rattle.mesh.proofs.Answers.{split, stands, refused, ok-of, node-granted, map-granted, map-in-order}
 use Rattle.mesh.proofs.Numbers.{place-in}
 use Rattle.mesh.specs.declared.Sizes.{Sizes}
-use Rattle.mesh.specs.declared.Place.{Place}
 use Rattle.mesh.specs.declared.Refusal.{Refusal}
 use Rattle.mesh.specs.declared.Refusal.the-variants.{BadSizes, BadLength, BadCell, BadNumber, FaultyEnd, NoPath}
 use Rattle.mesh.specs.declared.Answer.{Answer}
 use Rattle.mesh.specs.declared.Answer.the-variants.{Done, Refused}
-use Rattle.routes.specs.Differences.{hops}
-use Rattle.routes.specs.Paths.{Walk, leads}
+use Rattle.routes.specs.Paths.{leads}
 use Rattle.routes.specs.Entries.{checkEnds, verdictCheck}
 use Rattle.routes.specs.Promise.{InOrder, BothWork, Joined}
 use Rattle.routes.proofs.Paths.{path-iff}
-use Rattle.routes.proofs.Walks.{walk-le, path-walk}
 
 -- ---- how high a refusal's number can be
 
@@ -192,13 +188,3 @@ module _ (S : Sizes) (cells : List ℕ) (s e : ℕ) where
             let z : t ≡ false = bool-ext t false (λ x. none (path-iff m (placeOf S s) (placeOf S e) (place-in S s (q .start-in)) .1 (a, b, x))) (λ x. absurd x) in
             rw (ends-iff .1 (q, (a, b)), z),
       )
-
-  -- so every walk through working neighbours is longer than the Manhattan distance
-  pub refused-walks : verdictCheck S cells s e ≡ Refused NoPath → (l : List ℕ) → Walk m (placeOf S e) (placeOf S s) (placeOf S e) l → hops (placeOf S s) (placeOf S e) + 1 < length l
-  refused-walks h l w =
-      let (q, (a, b), none) = refused-iff .0 h in
-      let i = place-in S s (q .start-in) in
-      elim (eq-or-lt-of-le (walk-le m (placeOf S e) w i)) [
-        | inl d ↦ absurd (none (l, record { start-may = a; end-may = b; leading = path-walk m (placeOf S e) (placeOf S s) l i .1 (w, sym d) }))
-        | inr d ↦ d
-      ]

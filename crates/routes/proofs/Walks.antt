@@ -22,7 +22,7 @@ module _ (m : Map) (e : Place) where
   walked {p} (hop {r = r} j h y L) = let (t, k, n) = mayHop-iff m e p j r .0 y in goes j h k n (walked L)
 
   -- "hops + 1 of them": the nodes of a path
-  pub leads-length : {p q : Place} {l : List ℕ} → Leads m e p q l → Inside (m .sizes) p → length l + hops q e ≡ hops p e + 1
+  leads-length : {p q : Place} {l : List ℕ} → Leads m e p q l → Inside (m .sizes) p → length l + hops q e ≡ hops p e + 1
   leads-length {p} {q} (stay f) i = rw f (omega arith)
   leads-length {p} {q} (hop {r = r} {l = l} j h y L) i =
       let k = hop-lowers m e p r j i h y in

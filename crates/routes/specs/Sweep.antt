@@ -1,5 +1,5 @@
 -- The sweep over a box, layer by layer from its first corner: what the functions of src/ leave in their bytes. No promise is stated in these
--- words: what the bytes mean for paths is proved (proofs/Swept). Assumes nothing.
+-- words: what the bytes mean for paths is proved (proofs/Backward, proofs/Forward). Assumes nothing.
 use mathlib.Core.Path.{_≡_}
 use mathlib.Core.Bool.{Bool, true, false, cond, _&&_, _||_}
 use mathlib.Core.List.{List}

@@ -23,16 +23,11 @@ fn check_ends(s: Sizes, cells: &[u8], start: usize, end: usize) -> Answer
     let Answer::Done = a else {
         return a;
     };
-    if start >= s.nodes() {
+    let n = s.nodes();
+    if start >= n || end >= n {
         return Answer::Refused(Refusal::BadNumber);
     }
-    if end >= s.nodes() {
-        return Answer::Refused(Refusal::BadNumber);
-    }
-    if !may_end(cells[start]) {
-        return Answer::Refused(Refusal::FaultyEnd);
-    }
-    if !may_end(cells[end]) {
+    if !may_end(cells[start]) || !may_end(cells[end]) {
         return Answer::Refused(Refusal::FaultyEnd);
     }
     Answer::Done

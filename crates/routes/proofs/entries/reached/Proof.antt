@@ -1,6 +1,6 @@
 -- `routes::entries::reached` meets its contract: the ends and the room are checked, and then the bytes are written and counted.
 -- Assumes nothing.
-use mathlib.Core.Path.{_≡_, sym, _∙_}
+use mathlib.Core.Path.{sym, _∙_}
 use Prim.Native.Nat.{_≤_}
 use borrow.Author.Needs.{needs}
 use denote.Ref.{now}

@@ -1,8 +1,7 @@
 -- `routes::entries::route` meets its contract: the ends are checked, and then the route is written. Assumes nothing.
-use mathlib.Core.Path.{_≡_, sym, _∙_}
+use mathlib.Core.Path.{sym, _∙_}
 use borrow.Author.Needs.{needs}
 use denote.Ref.{now}
-use Rattle.mesh.specs.Mesh.{placeOf}
 use Rattle.routes.proofs.Ends.{Past, past-ends}
 use Rattle.routes.proofs.Routing.{route-refused, route-past}
 use Rattle.routes.proofs.entries.route.Statement.{statement}

@@ -25,7 +25,8 @@ Inv-loop s g table n out₀ t₀ i₀ out t i = (i ≤ n) × (t ≡ trail s g ta
 abbrev μ-loop : tie.MeasureT-loop
 μ-loop s g table n out₀ t₀ i₀ out t i = n - i
 
-trail-next : (S : Sizes) (g : Between) (table : List ℕ) (i : ℕ) (t u : Place) → t ≡ trail S g table i → u ≡ nearest S g table t → u ≡ trail S g table (i + 1)
+trail-next : (S : Sizes) (g : Between) (table : List ℕ) (i : ℕ) (t u : Place) → t ≡ trail S g table i → u ≡ nearest S g table t
+    → u ≡ trail S g table (i + 1)
 trail-next S g table i t u e f = rw (add-one i) (f ∙ ap (nearest S g table) e)
 
 node-at : (S : Sizes) (g : Between) (t u : Place) (k : ℕ) → k ≡ number S (reach g t) → t ≡ u → k ≡ number S (reach g u)

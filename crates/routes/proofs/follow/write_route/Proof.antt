@@ -16,7 +16,6 @@ use Rattle.mesh.specs.Fill.{Filled}
 use Rattle.mesh.proofs.Tests.{holds-true}
 use Rattle.mesh.proofs.Numbers.{nodes-le}
 use Rattle.mesh.specs.declared.Sizes.{Sizes}
-use Rattle.mesh.specs.declared.Place.{Place}
 use Rattle.routes.specs.Differences.{hops}
 use Rattle.routes.specs.Paths.{leads}
 use Rattle.routes.specs.Box.{between, reach, far}
@@ -116,7 +115,8 @@ follow-requires c κs =
     )
 
 filled-by : (S : Sizes) (table old new : List ℕ) (g g′ : Between) (n n′ : ℕ) → g ≡ g′ → n ≡ n′
-    → Filled (λ i. i) (λ i. number S (reach g (trail S g table i))) old new n → Filled (λ i. i) (λ i. number S (reach g′ (trail S g′ table i))) old new n′
+    → Filled (λ i. i) (λ i. number S (reach g (trail S g table i))) old new n
+    → Filled (λ i. i) (λ i. number S (reach g′ (trail S g′ table i))) old new n′
 filled-by S table old new g g′ n n′ e f F = rw (← e, ← f) F
 
 returns-3 : tie.Need-returns-3

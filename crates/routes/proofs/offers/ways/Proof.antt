@@ -66,7 +66,8 @@ ways-in-requires c κs =
     )
 
 -- what is read is read of the box as one layer
-by-ways : (S : Sizes) (f f′ : Between) (t : Place) (bytes : List ℕ) (w : Ways) → f ≡ f′ → t ≡ far f → w ≡ waysIn S f bytes t → w ≡ waysIn S f′ bytes (far f′)
+by-ways : (S : Sizes) (f f′ : Between) (t : Place) (bytes : List ℕ) (w : Ways) → f ≡ f′ → t ≡ far f → w ≡ waysIn S f bytes t
+    → w ≡ waysIn S f′ bytes (far f′)
 by-ways S f f′ t bytes w e q h = h ∙ rw (q, e)
 
 by-entered : (S : Sizes) (f f′ : Between) (t : Place) (bytes : List ℕ) (n z : ℕ) → f ≡ f′ → t ≡ far f

@@ -1,5 +1,5 @@
 -- `routes::sweep::row` meets its contract: each turn joins one byte more, and the last one is at hand. Assumes nothing.
-use mathlib.Core.Path.{_≡_, refl, _∙_, subst}
+use mathlib.Core.Path.{_≡_, subst}
 use mathlib.Core.List.{List}
 use Prim.Native.Nat.{ℕ, _+_, _-_, _≤_, _<_}
 use native.Mathlib.Omega.{arith}
@@ -23,7 +23,8 @@ side r a k y n old new e l o b z =
     rw (e, z) (f, q, rw q (gone-lt (beside r y) (length old) (b .on) a l))
 
 joined-by : (cells bytes : List ℕ) (k k′ i i′ j j′ x x′ v : ℕ) → k ≡ k′ → i ≡ i′ → j ≡ j′ → x ≡ x′
-    → v ≡ joined (mayPass (getD cells k 0)) (getD bytes i 0) (getD bytes j 0) x → v ≡ joined (mayPass (getD cells k′ 0)) (getD bytes i′ 0) (getD bytes j′ 0) x′
+    → v ≡ joined (mayPass (getD cells k 0)) (getD bytes i 0) (getD bytes j 0) x
+    → v ≡ joined (mayPass (getD cells k′ 0)) (getD bytes i′ 0) (getD bytes j′ 0) x′
 joined-by cells bytes k k′ i i′ j j′ x x′ v e f g h q = rw (← e, ← f, ← g, ← h) q
 
 abbrev Inv-loop : tie.InvT-loop

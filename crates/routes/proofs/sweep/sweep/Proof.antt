@@ -1,6 +1,6 @@
 -- `routes::sweep::sweep` meets its contract: layer after layer. Assumes nothing.
 use mathlib.Core.Path.{_≡_, _∙_, subst}
-use Prim.Native.Nat.{ℕ, _+_, _-_, _≤_}
+use Prim.Native.Nat.{ℕ, _-_, _≤_}
 use native.Mathlib.Omega.{arith}
 use denote.Ref.{now}
 use Rattle.mesh.specs.Cells.{mapOf}

@@ -1,15 +1,14 @@
 -- `routes::sweep::sweep_layer` meets its contract: row after row. Assumes nothing.
-use mathlib.Core.Path.{_≡_, _∙_, subst}
+use mathlib.Core.Path.{_≡_, subst}
 use mathlib.Core.List.{List}
 use Prim.Native.Nat.{ℕ, _+_, _-_, _≤_}
 use native.Mathlib.Omega.{arith}
 use denote.Ref.{now}
-use lib.ListN.{length}
-use Rattle.mesh.specs.Mesh.{Inside, place}
+use Rattle.mesh.specs.Mesh.{Inside}
 use Rattle.routes.specs.Box.{largest, far, rowRun}
-use Rattle.routes.specs.Sweep.{spot, Row, Rows, Layer}
+use Rattle.routes.specs.Sweep.{spot, Row, Layer}
 use Rattle.routes.proofs.Box.{far-in}
-use Rattle.routes.proofs.Rows.{layerOf, fromOf, from-le, from-first, from-next, row-next, rows-of, layer-none, layer-more}
+use Rattle.routes.proofs.Waves.{layerOf, fromOf, from-le, from-first, from-next, row-next, rows-of, layer-none, layer-more}
 use Rattle.routes.specs.declared.Run.{Run}
 use Rattle.routes.proofs.sweep.sweep_layer.Statement.{statement}
 use Rattle.routes.proofs.sweep.sweep_layer.Tie as tie
