@@ -13,7 +13,10 @@ use timing::Row;
 /// Times a call on a mesh.
 type Timed = fn(Cube, &mut Vec<Row>);
 
-const ALL: [(&str, Timed); 11] = [
+const ALL: [(&str, Timed); 14] = [
+    ("dk_number", cases::number),
+    ("dk_place", cases::place),
+    ("dk_step", cases::step),
     ("dk_marks", cases::marks),
     ("dk_components", cases::components),
     ("dk_verdict", cases::verdict),
@@ -27,14 +30,25 @@ const ALL: [(&str, Timed); 11] = [
     ("dk_write_map", cases::write_map),
 ];
 
+fn stop(why: &str) -> ! {
+    eprintln!("{why}");
+    std::process::exit(1);
+}
+
 fn main() {
     if !dukthari::LINKED {
-        println!("there is no archive for this machine: rust/measure makes it");
-        std::process::exit(1);
+        stop("there is no archive for this machine: rust/measure makes it");
     }
-    let mut chosen: Vec<String> = std::env::args().skip(1).collect();
-    let picture = chosen.iter().position(|word| word == "--picture").map(|i| chosen.drain(i..(i + 2).min(chosen.len())).last().unwrap());
-    let wanted = |call: &str| dukthari::declares(call) && (chosen.is_empty() || chosen.iter().any(|part| call.contains(&part[..])));
+    let (mut chosen, mut picture) = (Vec::new(), None);
+    let mut words = std::env::args().skip(1);
+    while let Some(word) = words.next() {
+        match &word[..] {
+            "--picture" => picture = Some(words.next().unwrap_or_else(|| stop("--picture wants the name of a file"))),
+            part if ALL.iter().any(|(call, _)| call.contains(part)) => chosen.push(word),
+            part => stop(&format!("no call has {part} in its name; usage: rust/measure [CALL..] [--picture FILE]")),
+        }
+    }
+    let wanted = |call: &str| chosen.is_empty() || chosen.iter().any(|part| call.contains(&part[..]));
     let mut rows = Vec::new();
     println!("| Call | Mesh | Input | Library, ns | Plain Rust, ns | Ratio | Half of the ratios in |");
     println!("|---|---|---|---|---|---|---|");
@@ -49,6 +63,6 @@ fn main() {
         cases::gossip();
     }
     if let Some(file) = picture {
-        std::fs::write(&file, picture::of(&rows)).unwrap_or_else(|e| panic!("{file}: {e}"));
+        std::fs::write(&file, picture::of(&rows)).unwrap_or_else(|e| stop(&format!("{file}: {e}")));
     }
 }

@@ -23,10 +23,10 @@ pub fn of(rows: &[Row]) -> String {
         r##"<text x="10" y="20" font-size="14">Time of the library by that of plain Rust; left of 1 the library is the faster</text>"##
     )
     .unwrap();
-    for tenth in [0.0, 0.25, 0.5, 0.75, 1.0, 1.25] {
-        let (at, colour) = (x(tenth), if tenth == 1.0 { "#c00" } else { "#ccc" });
+    for quarter in [0.0, 0.25, 0.5, 0.75, 1.0, 1.25] {
+        let (at, colour) = (x(quarter), if quarter == 1.0 { "#c00" } else { "#ccc" });
         writeln!(text, r##"<line x1="{at}" y1="30" x2="{at}" y2="{bottom}" stroke="{colour}"/>"##).unwrap();
-        writeln!(text, r##"<text x="{at}" y="{}" text-anchor="middle">{tenth}</text>"##, bottom + 16).unwrap();
+        writeln!(text, r##"<text x="{at}" y="{}" text-anchor="middle">{quarter}</text>"##, bottom + 16).unwrap();
     }
     for (i, row) in rows.iter().enumerate() {
         let y = 44 + HIGH * i;

@@ -28,7 +28,7 @@
 //! The archive must be there first: target/staticlib/libdukthari.a on x86-64, made by `rt staticlib dukthari`, and
 //! target/native/libdukthari.a on another machine, made by `rust/native`. Without it this crate is built all the same, with a warning, and
 //! each call panics.
-#![allow(unknown_lints, unexpected_cfgs)] // build.rs sets `linked`, and `has` for each call that is linked
+#![allow(unknown_lints, unexpected_cfgs)] // build.rs sets `linked`
 #![deny(unsafe_code)]
 
 pub mod answers;
@@ -47,15 +47,8 @@ pub use field::{Field, Word};
 pub use map::Map;
 pub use marks::{Component, Components, Mark, Marks};
 pub use refusal::Refusal;
-#[cfg(has = "dk_reached")]
-pub use route::Reached;
-pub use route::{Nodes, Route, Verdict};
+pub use route::{Nodes, Reached, Route, Verdict};
 pub use sizes::{Place, Sizes};
 
 /// Whether there was an archive to link.
 pub const LINKED: bool = cfg!(linked);
-
-/// Whether include/dukthari.h declares a call of this name.
-pub fn declares(call: &str) -> bool {
-    env!("DUKTHARI_CALLS").split(' ').any(|name| name == call)
-}

@@ -166,7 +166,6 @@ impl Map {
     /// assert_eq!(reached.count(), 1);
     /// # Ok::<(), Box<dyn std::error::Error>>(())
     /// ```
-    #[cfg(has = "dk_reached")]
     pub fn reached(&self, start: u32, end: u32) -> Result<crate::Reached, Refusal> {
         let mut bytes = vec![0; self.cells.len()];
         let count = self.sizes.reached(start, end, &self.cells, &mut bytes)?;
