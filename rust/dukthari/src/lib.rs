@@ -25,9 +25,8 @@
 //! `rust/compare` holds it to an independent search program. [`Sizes`] has every call with slices that the caller lends, and [`answers`] and
 //! [`calls`] have them as they come, field by field.
 //!
-//! The archive must be there first: target/staticlib/libdukthari.a on x86-64, made by `rt staticlib dukthari`, and
-//! target/native/libdukthari.a on another machine, made by `rust/native`. Without it this crate is built all the same, with a warning, and
-//! each call panics.
+//! The archive must be there first: `make` at the top of the tree makes it, target/staticlib/libdukthari.a on x86-64 and
+//! target/native/libdukthari.a elsewhere. Without it this crate is built all the same, with a warning, and each call panics.
 #![allow(unknown_lints, unexpected_cfgs)] // build.rs sets `linked`
 #![deny(unsafe_code)]
 
