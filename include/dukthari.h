@@ -1,4 +1,4 @@
-/* Dukthari: a proved library for storage shelves wired as a mesh. Link libdukthari.a, which `rt staticlib dukthari` makes.
+/* Dukthari: a proved library for storage shelves wired as a mesh. Link libdukthari.a, which `make` makes.
  *
  * Sizes: width w and height h are 2 to 16, depth d is 1 to 16. The mesh has N = w * h * d nodes, at most 4096.
  * Node (x, y, z) has number x + w * (y + h * z).
@@ -6,21 +6,10 @@
  *
  * A cell is 0 (the node works) or 1 (it is faulty). Orientation 0 to 7: bit 0 set means that X runs down, bit 1 Y, bit 2 Z.
  *
- * Every call takes every number and every length: none is undefined on any. In each answer `refusal` is 0 when the call is granted, else
- * the number of the first cause, in the order that stands at the call, and then every other field is 0, except that refusal 4 gives the
- * node number of the first bad cell in `bad`. A refused call changes no lent byte. The numbers:
- *   DK_BAD_SIZES   w, h or d outside its range
- *   DK_BAD_LENGTH  cells not exactly N bytes, or a state not exactly 7 * N
- *   DK_NO_ROOM     an output lent is shorter than what is to be written
- *   DK_BAD_CELL    a cell above 1
- *   DK_BAD_NUMBER  orientation above 7, node N or above, place outside the mesh, direction above 5, or a word not 0, 2, 4, 6
- *   DK_UNSOUND     the state is not sound for this orientation
- *   DK_NO_PAIR     the listener is faulty, or the neighbour is absent or faulty
- *   DK_NOT_HELD    the word holds a mark that the speaker lacks now
- *   DK_FAULTY_END  start or end of a route is faulty
- *   DK_NO_PATH     no path
- *   DK_BAD_FILE    file: length, mark, zero byte or distance wrong
- */
+ * Every call takes every number and every length: none is undefined on any. A pointer leads to as many elements as the length after it
+ * says, and may be NULL where that is 0; what is lent to be written overlaps nothing else that is lent. In each answer `refusal` is 0 when
+ * the call is granted, else the number of the first cause, in the order that stands at the call, and then every other field is 0, except
+ * that refusal 4 gives the node number of the first bad cell in `bad`. A refused call changes no lent byte. */
 #ifndef DUKTHARI_H
 #define DUKTHARI_H
 
@@ -31,17 +20,17 @@
 extern "C" {
 #endif
 
-#define DK_BAD_SIZES 1u
-#define DK_BAD_LENGTH 2u
-#define DK_NO_ROOM 3u
-#define DK_BAD_CELL 4u
-#define DK_BAD_NUMBER 5u
-#define DK_UNSOUND 6u
-#define DK_NO_PAIR 7u
-#define DK_NOT_HELD 8u
-#define DK_FAULTY_END 9u
-#define DK_NO_PATH 10u
-#define DK_BAD_FILE 11u
+#define DK_BAD_SIZES 1u  /* w, h or d outside its range */
+#define DK_BAD_LENGTH 2u /* cells not exactly N bytes, or a state not exactly 7 * N */
+#define DK_NO_ROOM 3u    /* an output lent is shorter than what is to be written */
+#define DK_BAD_CELL 4u   /* a cell above 1 */
+#define DK_BAD_NUMBER 5u /* orientation above 7, node N or above, place outside the mesh, direction above 5, or a word not 0, 2, 4, 6 */
+#define DK_UNSOUND 6u    /* the state is not sound for this orientation */
+#define DK_NO_PAIR 7u    /* the listener is faulty, or the neighbour is absent or faulty */
+#define DK_NOT_HELD 8u   /* the word holds a mark that the speaker lacks now */
+#define DK_FAULTY_END 9u /* start or end of a route is faulty */
+#define DK_NO_PATH 10u   /* no path */
+#define DK_BAD_FILE 11u  /* file: length, mark, zero byte or distance wrong */
 
 typedef struct { uint32_t refusal, bad; } dk_done;
 typedef struct { uint32_t refusal, bad, count; } dk_counted; /* a number, or a length written */
@@ -64,13 +53,17 @@ dk_place_answer dk_place(uint32_t w, uint32_t h, uint32_t d, uint32_t node);
  * Refusals, in order: 1 sizes; 5 a place outside the mesh, or a direction above 5. */
 dk_step_answer dk_step(uint32_t w, uint32_t h, uint32_t d, uint32_t x, uint32_t y, uint32_t z, uint32_t direction);
 
-/* The mark byte of each node, in node order: 0 none, 1 faulty, 2 useless, 4 can't-reach, 6 both. N bytes are written to out; later bytes stay.
+/* The mark byte of each node, in node order: 0 none, 1 faulty, 2 useless, 4 can't-reach, 6 both. A working node is useless if on every axis
+ * of size 2 or more its neighbour ahead, the way the axis runs, exists and is faulty or useless; it is can't-reach if on every such axis
+ * its neighbour behind exists and is faulty or can't-reach. N bytes are written to out; later bytes stay.
  * Refusals, in order: 1 sizes; 2 cells; 4 a bad cell; 5 the orientation; 3 out shorter than N. */
 dk_done dk_marks(uint32_t w, uint32_t h, uint32_t d, uint32_t orientation, const uint8_t *cells, size_t cells_len,
                  uint8_t *out, size_t out_len);
 
-/* The components of the unsafe nodes, numbered from 1 by their lowest node number. N numbers are written to table, 0 for a safe node, and one
- * record for each component to row, in that order; later places stay. count: how many components there are, at most 1024.
+/* The components of the unsafe nodes, those whose mark byte is not 0: two are in one if a chain of touching ones joins them, and two touch
+ * if their coordinates differ by 1 on one or two axes and by 0 on the others. They are numbered from 1 by their lowest node. N numbers are
+ * written to table, 0 for a safe node, and one record for each component to row, in that order; later places stay. count: how many
+ * components there are, at most 1024.
  * Refusals, in order: 1 sizes; 2 cells; 4 a bad cell; 5 the orientation; 3 table shorter than N, or row than count: neither has changed. */
 dk_counted dk_components(uint32_t w, uint32_t h, uint32_t d, uint32_t orientation, const uint8_t *cells, size_t cells_len,
                          uint16_t *table, size_t table_len, dk_component *row, size_t row_len);
@@ -99,7 +92,8 @@ dk_counted dk_reached(uint32_t w, uint32_t h, uint32_t d, uint32_t start, uint32
 dk_done dk_fresh(uint32_t w, uint32_t h, uint32_t d, uint32_t orientation, const uint8_t *cells, size_t cells_len,
                  uint8_t *state, size_t state_len);
 
-/* Is this a sound state of the talking nodes?
+/* Is this a sound state of the talking nodes? Each byte heard is 8 where no neighbour exists, 1 where it is faulty, else a word, 0, 2, 4 or 6,
+ * with no mark that the neighbour's own byte lacks; own bytes follow from those heard by the mark rule; a faulty node has 1 and six zeros.
  * Refusals, in order: 1 sizes; 2 the state's length; 5 the orientation; 6 unsound. */
 dk_done dk_sound(uint32_t w, uint32_t h, uint32_t d, uint32_t orientation, const uint8_t *state, size_t state_len);
 

@@ -156,7 +156,7 @@ class Agreement(unittest.TestCase):
             self.assertEqual(len(arguments.split(",")), numbers + 2 * len(buffers), name)
             self.assertTrue(hasattr(dukthari.LIBRARY, name), name)
         self.assertGreaterEqual(len(declared), 13)
-        numbers = {int(number) for number in re.findall(r"^#define DK_\w+ (\d+)u$", text("include", "dukthari.h"), re.MULTILINE)}
+        numbers = {int(number) for number in re.findall(r"^#define DK_\w+ (\d+)u\b", text("include", "dukthari.h"), re.MULTILINE)}
         self.assertEqual(numbers, set(dukthari.REFUSALS))
 
     def test_reasons(self):

@@ -59,10 +59,9 @@ def _load():
         raise ImportError("no libdukthari.so: `make` makes it, or DUKTHARI_LIBRARY names it")
     library = ctypes.CDLL(found)
     for name, (answer, numbers, *buffers) in CALLS.items():
-        function = getattr(library, name, None)
-        if function is not None:
-            function.restype = answer
-            function.argtypes = [c_uint32] * numbers + [part for buffer in buffers for part in buffer]
+        function = getattr(library, name)
+        function.restype = answer
+        function.argtypes = [c_uint32] * numbers + [part for buffer in buffers for part in buffer]
     return library
 
 

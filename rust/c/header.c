@@ -1,6 +1,6 @@
 /* The header as a C and a C++ program sees it: sizes and fields of the answers, and each call, on meshes whose sizes differ and on the scope
  * paper's samples, so that no two fields or arguments can be exchanged unseen. Prints how many checks held; ends with status 1 at the first
- * that does not. A call that the header does not declare yet is left out: HAS_name stands for one that it does. */
+ * that does not. */
 #include "dukthari.h"
 #include <stddef.h>
 #include <stdio.h>
@@ -45,7 +45,6 @@ static void layout(void) {
     FIELD(dk_map_answer, w, 8, 4);
     FIELD(dk_map_answer, h, 12, 4);
     FIELD(dk_map_answer, d, 16, 4);
-#ifdef HAS_dk_components
     CHECK(sizeof(dk_component) == 8);
     FIELD(dk_component, count, 0, 2);
     FIELD(dk_component, x0, 2, 1);
@@ -54,7 +53,6 @@ static void layout(void) {
     FIELD(dk_component, x1, 5, 1);
     FIELD(dk_component, y1, 6, 1);
     FIELD(dk_component, z1, 7, 1);
-#endif
 }
 
 static int is_place(dk_place_answer a, uint32_t refusal, uint32_t x, uint32_t y, uint32_t z) {
@@ -104,7 +102,6 @@ static int is_verdict(dk_verdict_answer a, uint32_t refusal, uint32_t bad, uint3
 
 /* samples 1, 2 and 10 */
 static void marks(void) {
-#ifdef HAS_dk_marks
     static const uint8_t cross[9] = {0, 1, 0, 1, 0, 1, 0, 1, 0}, crossed[9] = {2, 1, 0, 1, 6, 1, 0, 1, 4};
     static const uint8_t bad[4] = {0, 1, 2, 3};
     uint8_t out[26] = {0}, want[26] = {0};
@@ -116,8 +113,6 @@ static void marks(void) {
     CHECK(is_done(dk_marks(5, 5, 1, 8, P, 25, out, 0), DK_BAD_NUMBER, 0));
     CHECK(is_done(dk_marks(5, 5, 1, 7, P, 25, out, 24), DK_NO_ROOM, 0));
     CHECK(is_done(dk_marks(5, 5, 1, 8, NULL, 0, NULL, 0), DK_BAD_LENGTH, 0));
-#endif
-#ifdef HAS_dk_components
     {
         uint16_t table[26] = {0};
         dk_component row[2];
@@ -130,12 +125,10 @@ static void marks(void) {
         CHECK(is_counted(dk_components(5, 5, 1, 1, P, 25, table, 25, NULL, 0), DK_NO_ROOM, 0, 0));
         CHECK(is_counted(dk_components(5, 5, 1, 1, P, 25, table, 24, row, 1), DK_NO_ROOM, 0, 0));
     }
-#endif
 }
 
 /* samples 3 to 9 */
 static void routes(void) {
-#ifdef HAS_dk_verdict
     CHECK(is_verdict(dk_verdict(5, 5, 1, 0, 24, P, 25), 0, 0, 8, 5));
     CHECK(is_verdict(dk_verdict(5, 5, 1, 1, 24, P, 25), 0, 0, 7, 1));
     CHECK(is_verdict(dk_verdict(5, 5, 1, 6, 24, P, 25), DK_NO_PATH, 0, 0, 0));
@@ -147,8 +140,6 @@ static void routes(void) {
     CHECK(is_verdict(dk_verdict(5, 5, 1, 24, 0, P, 25), 0, 0, 8, 10));
     CHECK(is_verdict(dk_verdict(5, 5, 1, 7, 24, P, 25), DK_FAULTY_END, 0, 0, 0));
     CHECK(is_verdict(dk_verdict(5, 5, 1, 25, 7, P, 25), DK_BAD_NUMBER, 0, 0, 0));
-#endif
-#ifdef HAS_dk_route
     {
         static const uint16_t there[9] = {0, 1, 2, 3, 4, 9, 14, 19, 24}, back[9] = {24, 23, 22, 21, 20, 15, 10, 5, 0};
         uint16_t out[10] = {0};
@@ -159,8 +150,6 @@ static void routes(void) {
         CHECK(is_counted(dk_route(5, 5, 1, 6, 6, P, 25, out, 1), 0, 0, 1) && out[0] == 6);
         CHECK(is_counted(dk_route(5, 5, 1, 6, 24, P, 25, NULL, 0), DK_NO_PATH, 0, 0));
     }
-#endif
-#ifdef HAS_dk_reached
     {
         uint8_t out[26];
         memset(out, 77, sizeof out);
@@ -169,12 +158,10 @@ static void routes(void) {
         CHECK(is_counted(dk_reached(5, 5, 1, 0, 24, P, 25, out, 25), 0, 0, 22) && out[24] == 1 && out[12] == 0);
         CHECK(is_counted(dk_reached(5, 5, 1, 0, 24, P, 25, out, 24), DK_NO_ROOM, 0, 0));
     }
-#endif
 }
 
 /* sample 11: 4 x 4 x 1 with (2,1), (1,2), (0,2) faulty */
 static void field(void) {
-#if defined(HAS_dk_fresh) && defined(HAS_dk_sound) && defined(HAS_dk_outstanding) && defined(HAS_dk_hear)
     static const uint8_t corner[16] = {0, 0, 0, 0, 0, 0, 1, 0, 1, 1};
     uint8_t state[112];
     CHECK(is_done(dk_fresh(4, 4, 1, 0, corner, 16, state, 112), 0, 0));
@@ -192,12 +179,10 @@ static void field(void) {
     CHECK(is_done(dk_hear(4, 4, 1, 0, 14, 3, 4, state, 112), 0, 0));
     CHECK(is_counted(dk_outstanding(4, 4, 1, 0, state, 112), 0, 0, 0));
     CHECK(is_done(dk_fresh(4, 4, 1, 0, corner, 16, state, 111), DK_BAD_LENGTH, 0));
-#endif
 }
 
 /* P's file of 37 bytes */
 static void files(void) {
-#if defined(HAS_dk_read_map) && defined(HAS_dk_write_map)
     static const uint8_t trailer[12] = {5, 5, 1, 0, 37, 0, 0, 0, 0x46, 0x4C, 0x44, 0x31};
     uint8_t file[38], cells[26];
     dk_map_answer a;
@@ -213,11 +198,9 @@ static void files(void) {
     CHECK(a.refusal == DK_BAD_CELL && a.bad == 20 && a.w == 0);
     a = dk_read_map(file, 37, cells, 24);
     CHECK(a.refusal == DK_NO_ROOM && a.bad == 0 && memcmp(cells, P, 25) == 0);
-#endif
 }
 
 int main(void) {
-    (void)P, (void)is_done, (void)is_counted, (void)is_verdict;
     layout();
     places();
     marks();

@@ -2,7 +2,7 @@
  * another, and writes the answers in the same way. A request is the number of a call, its numbers, and each of its buffers as a count of
  * bytes and the bytes, four to a word; an answer is its fields, and the bytes of each buffer that was lent to be written. Ends where its
  * input does. Each buffer stands in a room of its own between walls, and a call that changes a wall or a buffer that it only reads is found
- * out. A call that the header does not declare yet is left out: HAS_name stands for one that it does. */
+ * out. */
 #include "dukthari.h"
 #include <stddef.h>
 
@@ -116,7 +116,6 @@ static int serve(void) {
         *made++ = s.refusal, *made++ = s.there, *made++ = s.x, *made++ = s.y, *made++ = s.z;
         return 1;
     }
-#ifdef HAS_dk_marks
     case 3: {
         const uint8_t *cells;
         uint8_t *out;
@@ -127,8 +126,6 @@ static int serve(void) {
         *made++ = r.refusal, *made++ = r.bad;
         return kept(0) && give(1);
     }
-#endif
-#ifdef HAS_dk_components
     case 4: {
         const uint8_t *cells;
         uint16_t *table;
@@ -140,8 +137,6 @@ static int serve(void) {
         *made++ = r.refusal, *made++ = r.bad, *made++ = r.count;
         return kept(0) && give(1) && give(2);
     }
-#endif
-#ifdef HAS_dk_verdict
     case 5: {
         const uint8_t *cells;
         dk_verdict_answer r;
@@ -151,8 +146,6 @@ static int serve(void) {
         *made++ = r.refusal, *made++ = r.bad, *made++ = r.hops, *made++ = r.offered;
         return kept(0);
     }
-#endif
-#ifdef HAS_dk_route
     case 6: {
         const uint8_t *cells;
         uint16_t *out;
@@ -163,8 +156,6 @@ static int serve(void) {
         *made++ = r.refusal, *made++ = r.bad, *made++ = r.count;
         return kept(0) && give(1);
     }
-#endif
-#ifdef HAS_dk_reached
     case 7: {
         const uint8_t *cells;
         uint8_t *out;
@@ -175,8 +166,6 @@ static int serve(void) {
         *made++ = r.refusal, *made++ = r.bad, *made++ = r.count;
         return kept(0) && give(1);
     }
-#endif
-#ifdef HAS_dk_fresh
     case 8: {
         const uint8_t *cells;
         uint8_t *state;
@@ -187,8 +176,6 @@ static int serve(void) {
         *made++ = r.refusal, *made++ = r.bad;
         return kept(0) && give(1);
     }
-#endif
-#ifdef HAS_dk_sound
     case 9: {
         const uint8_t *state;
         dk_done r;
@@ -198,8 +185,6 @@ static int serve(void) {
         *made++ = r.refusal, *made++ = r.bad;
         return kept(0);
     }
-#endif
-#ifdef HAS_dk_outstanding
     case 10: {
         const uint8_t *state;
         dk_counted r;
@@ -209,8 +194,6 @@ static int serve(void) {
         *made++ = r.refusal, *made++ = r.bad, *made++ = r.count;
         return kept(0);
     }
-#endif
-#ifdef HAS_dk_hear
     case 11: {
         uint8_t *state;
         dk_done r;
@@ -220,8 +203,6 @@ static int serve(void) {
         *made++ = r.refusal, *made++ = r.bad;
         return give(0);
     }
-#endif
-#ifdef HAS_dk_read_map
     case 12: {
         const uint8_t *file = (const uint8_t *)buffer(0);
         uint8_t *cells = (uint8_t *)buffer(1);
@@ -229,8 +210,6 @@ static int serve(void) {
         *made++ = r.refusal, *made++ = r.bad, *made++ = r.w, *made++ = r.h, *made++ = r.d;
         return kept(0) && give(1);
     }
-#endif
-#ifdef HAS_dk_write_map
     case 13: {
         const uint8_t *cells;
         uint8_t *out;
@@ -241,14 +220,12 @@ static int serve(void) {
         *made++ = r.refusal, *made++ = r.bad, *made++ = r.count;
         return kept(0) && give(1);
     }
-#endif
     }
     return 0;
 }
 
 int main(void) {
     uint32_t words;
-    (void)buffer, (void)kept, (void)give;
     while (read_all(&words, sizeof words)) {
         if (words > WORDS || !read_all(asked, words * sizeof *asked))
             return 1;

@@ -27,11 +27,6 @@ impl Comparison {
         Comparison { libraries, cases: Vec::new(), asked: Vec::new(), search: Vec::new(), tallies: Tally::none() }
     }
 
-    /// Whether one of the libraries has a call.
-    pub fn asks(&self, call: Call) -> bool {
-        self.libraries.iter().any(|library| library.has(call))
-    }
-
     /// One case: the call, its numbers and its buffers. Gives the search program's answer: the fields, and the bytes lent.
     pub fn case(&mut self, call: Call, numbers: &[u32], buffers: &[&[u8]]) -> Vec<u32> {
         let begin = self.begin(call);
@@ -67,11 +62,9 @@ impl Comparison {
             (&asked[cases[i].asked..asked_end], &search[cases[i].search..search_end])
         };
         for library in &mut self.libraries {
-            let those: Vec<usize> = (0..cases.len()).filter(|i| library.has(cases[*i].call)).collect();
-            let requests: Vec<u32> = those.iter().flat_map(|i| part(*i).0).copied().collect();
-            let answers = library.answer(&requests);
+            let answers = library.answer(asked);
             let mut rest = &answers[..];
-            for i in those {
+            for i in 0..cases.len() {
                 let (request, search) = part(i);
                 let answer = &rest[..search.len().min(rest.len())];
                 rest = &rest[answer.len()..];

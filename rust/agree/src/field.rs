@@ -60,10 +60,6 @@ impl Field {
 }
 
 impl Comparison {
-    fn asks_field(&self) -> bool {
-        [Call::Fresh, Call::Sound, Call::Outstanding, Call::Hear].iter().any(|call| self.asks(*call))
-    }
-
     fn fresh(&mut self, r: &mut Random, size: Size, cells: &[u8], orientation: u32) -> Field {
         let [w, h, d] = size;
         let room = r.bytes(7 * nodes(size));
@@ -148,8 +144,7 @@ impl Comparison {
         for _ in 0..r.below(40) {
             self.any_call(r, &mut field);
         }
-        let sound = field.state.clone();
-        for at in 0..sound.len() {
+        for (at, kept) in field.state.clone().into_iter().enumerate() {
             for value in 0..=255 {
                 field.state[at] = value;
                 self.case(Call::Sound, &field.numbers(), &[&field.state]);
@@ -160,7 +155,7 @@ impl Comparison {
                     self.case(Call::Hear, &[w, h, d, o, listener, direction, r.pick(&[0, 2, 4, 6])], &[&field.state]);
                 }
             }
-            field.state[at] = sound[at];
+            field.state[at] = kept;
         }
     }
 
@@ -249,9 +244,6 @@ impl Comparison {
 }
 
 pub fn gossips(all: &mut Comparison, job: usize, jobs: usize) {
-    if !all.asks_field() {
-        return;
-    }
     let mut r = Random::new(6000 + job as u64);
     for i in (job..GOSSIPS).step_by(jobs) {
         if i < LARGE {
@@ -266,9 +258,6 @@ pub fn gossips(all: &mut Comparison, job: usize, jobs: usize) {
 }
 
 pub fn damaged(all: &mut Comparison) {
-    if !all.asks_field() {
-        return;
-    }
     let mut r = Random::new(7000);
     for _ in 0..DAMAGED {
         all.each_byte(&mut r);

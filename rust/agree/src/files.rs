@@ -116,9 +116,6 @@ impl Comparison {
 }
 
 pub fn good(all: &mut Comparison) {
-    if !all.asks(Call::ReadMap) && !all.asks(Call::WriteMap) {
-        return;
-    }
     let mut r = Random::new(8000);
     for i in 0..FILES {
         let size = if i % 10 == 0 { maps::any_size(&mut r) } else { maps::size(&mut r) };
@@ -135,9 +132,6 @@ pub fn good(all: &mut Comparison) {
 }
 
 pub fn bad(all: &mut Comparison) {
-    if !all.asks(Call::ReadMap) && !all.asks(Call::WriteMap) {
-        return;
-    }
     let mut r = Random::new(9000);
     for _ in 0..40 {
         all.damaged(&mut r);

@@ -3,9 +3,9 @@ use crate::call::Call;
 use crate::library::Here;
 use crate::request::Request;
 
-pub const SEARCH: Here = Here { name: "search", has: |_| true, call: search };
-pub const PLAIN: Here = Here { name: "plain Rust", has: |call| call as usize >= Call::Marks as usize, call: plain };
-pub const LINKED: Here = Here { name: "from Rust", has: |call| dukthari::declares(call.name()), call: linked };
+pub const SEARCH: Here = Here { name: "search", call: search };
+pub const PLAIN: Here = Here { name: "plain Rust", call: plain };
+pub const LINKED: Here = Here { name: "from Rust", call: linked };
 
 /// The buffers of a request, one, two or three, each to be written where it was lent.
 macro_rules! buffers {
@@ -29,14 +29,7 @@ fn search(request: &mut Request) -> Vec<u32> {
         }
         Call::Components => {
             buffers!(request, cells, table, row);
-            let row = row.records_mut();
-            let mut theirs: Vec<_> =
-                row.iter().map(|c| components::Component { count: c.count, least: c.least, greatest: c.greatest }).collect();
-            let answer = components::components(size, n[3], cells.bytes(), table.halves_mut(), &mut theirs);
-            for (ours, theirs) in row.iter_mut().zip(theirs) {
-                *ours = dukthari::Component { count: theirs.count, least: theirs.least, greatest: theirs.greatest };
-            }
-            answer.to_vec()
+            components::components(size, n[3], cells.bytes(), table.halves_mut(), row.records_mut()).to_vec()
         }
         Call::Verdict => routes::verdict(size, n[3], n[4], request.buffers[0].bytes()).to_vec(),
         Call::Route => {
@@ -77,21 +70,20 @@ fn plain(request: &mut Request) -> Vec<u32> {
         Err(r) => vec![r.number, r.bad, 0],
     };
     match request.call {
-        Call::Number | Call::Place | Call::Step => panic!("plain Rust has no calls on places"),
+        Call::Number => plain::number(size, [n[3], n[4], n[5]]).map_or_else(|r| vec![r.number, 0], |node| vec![0, node]),
+        Call::Place => plain::place(size, n[3]).map_or_else(|r| vec![r.number, 0, 0, 0], |[x, y, z]| vec![0, x, y, z]),
+        Call::Step => match plain::step(size, [n[3], n[4], n[5]], n[6]) {
+            Ok(Some([x, y, z])) => vec![0, 1, x, y, z],
+            Ok(None) => vec![0; 5],
+            Err(r) => vec![r.number, 0, 0, 0, 0],
+        },
         Call::Marks => {
             buffers!(request, cells, out);
             done(plain::marks(size, n[3], cells.bytes(), out.bytes_mut()))
         }
         Call::Components => {
             buffers!(request, cells, table, row);
-            let row = row.records_mut();
-            let mut theirs: Vec<_> =
-                row.iter().map(|c| plain::Component { count: c.count, least: c.least, greatest: c.greatest }).collect();
-            let answer = plain::components(size, n[3], cells.bytes(), table.halves_mut(), &mut theirs);
-            for (ours, theirs) in row.iter_mut().zip(theirs) {
-                *ours = dukthari::Component { count: theirs.count, least: theirs.least, greatest: theirs.greatest };
-            }
-            counted(answer)
+            counted(plain::components(size, n[3], cells.bytes(), table.halves_mut(), row.records_mut()))
         }
         Call::Verdict => match plain::verdict(size, n[3], n[4], request.buffers[0].bytes()) {
             Ok(v) => vec![0, 0, v.hops, v.offered],

@@ -1,14 +1,10 @@
 //! Who answers the calls: a program that serves the library over a pipe, or functions in this program.
-use crate::call::Call;
 use crate::request::Request;
 use std::io::{Read, Write};
 use std::process::{Child, Command, Stdio};
 
 pub trait Library {
     fn name(&self) -> &'static str;
-
-    /// Whether it has a call.
-    fn has(&self, call: Call) -> bool;
 
     /// The answers to some requests.
     fn answer(&mut self, asked: &[u32]) -> Vec<u32>;
@@ -50,10 +46,6 @@ impl Library for Served {
         "from C"
     }
 
-    fn has(&self, call: Call) -> bool {
-        dukthari::declares(call.name())
-    }
-
     fn answer(&mut self, asked: &[u32]) -> Vec<u32> {
         self.exchange(asked).unwrap_or_else(|e| stop(&format!("the program that serves the library stopped: {e}")))
     }
@@ -71,17 +63,12 @@ impl Drop for Served {
 /// Functions in this program: each does the call on the request's buffers and gives the fields of the answer.
 pub struct Here {
     pub name: &'static str,
-    pub has: fn(Call) -> bool,
     pub call: fn(&mut Request) -> Vec<u32>,
 }
 
 impl Library for Here {
     fn name(&self) -> &'static str {
         self.name
-    }
-
-    fn has(&self, call: Call) -> bool {
-        (self.has)(call)
     }
 
     fn answer(&mut self, mut asked: &[u32]) -> Vec<u32> {

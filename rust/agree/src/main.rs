@@ -26,7 +26,6 @@ mod request;
 mod routes;
 mod samples;
 
-use call::Call;
 use comparison::{Comparison, Tally};
 use library::{stop, Library, Served};
 use std::sync::Mutex;
@@ -108,21 +107,11 @@ fn main() {
         }
     });
 
-    let asked = |call: Call| libraries.iter().any(|library| library.has(call));
-    let groups: [(Call, fn(&[Tally])); 5] = [
-        (Call::Number, places::expect),
-        (Call::Marks, marks::expect),
-        (Call::Verdict, routes::expect),
-        (Call::Fresh, field::expect),
-        (Call::ReadMap, files::expect),
-    ];
-    for (call, expect) in groups {
-        if asked(call) {
-            expect(&tallies);
-        }
+    for expect in [places::expect, marks::expect, routes::expect, field::expect, files::expect] {
+        expect(&tallies);
     }
     for library in &libraries {
-        for tally in tallies.iter().filter(|tally| library.has(tally.call)) {
+        for tally in &tallies {
             println!("{}: {tally}", library.name());
         }
     }

@@ -12,17 +12,12 @@ const RECORD: usize = 8;
 
 impl Comparison {
     fn marks(&mut self, r: &mut Random, size: Size, orientation: u32, cells: &[u8]) {
-        if self.asks(Call::Marks) {
-            let [w, h, d] = size;
-            self.case(Call::Marks, &[w, h, d, orientation], &[cells, &maps::room(r, nodes(size), 1)]);
-        }
+        let [w, h, d] = size;
+        self.case(Call::Marks, &[w, h, d, orientation], &[cells, &maps::room(r, nodes(size), 1)]);
     }
 
     /// Components with room for all, and now and then with a row that just suffices, and with one that is too short by one.
     fn components(&mut self, r: &mut Random, size: Size, orientation: u32, cells: &[u8]) {
-        if !self.asks(Call::Components) {
-            return;
-        }
         let [w, h, d] = size;
         let table = maps::room(r, nodes(size), 2);
         let mut with_row = |row: &[u8]| self.case(Call::Components, &[w, h, d, orientation], &[cells, &table, row])[2] as usize;
@@ -63,14 +58,12 @@ impl Comparison {
         }
         let orientation = if has(8) { maps::above(r, 7) } else { r.below(8) as u32 };
         let room = |r: &mut Random, short: bool, unit| if short { maps::short_room(r, count, unit) } else { maps::room(r, count, unit) };
-        if self.asks(Call::Marks) && !has(32) {
+        if !has(32) {
             let out = room(r, has(16), 1);
             self.case(Call::Marks, &[w, h, d, orientation], &[&cells, &out]);
         }
-        if self.asks(Call::Components) {
-            let (table, row) = (room(r, has(16), 2), if has(32) { Vec::new() } else { room(r, false, RECORD) });
-            self.case(Call::Components, &[w, h, d, orientation], &[&cells, &table, &row]);
-        }
+        let (table, row) = (room(r, has(16), 2), if has(32) { Vec::new() } else { room(r, false, RECORD) });
+        self.case(Call::Components, &[w, h, d, orientation], &[&cells, &table, &row]);
     }
 }
 

@@ -87,9 +87,6 @@ impl Comparison {
 
 /// Every shape, one in `jobs` of them.
 pub fn shapes(all: &mut Comparison, job: u32, jobs: u32) {
-    if !all.asks(Call::Number) {
-        return;
-    }
     for w in 2..=16 {
         for h in 2..=16 {
             for d in 1..=16 {
@@ -102,9 +99,6 @@ pub fn shapes(all: &mut Comparison, job: u32, jobs: u32) {
 }
 
 pub fn bad_numbers(all: &mut Comparison) {
-    if !all.asks(Call::Number) {
-        return;
-    }
     for w in SIZES {
         for h in SIZES {
             for d in SIZES {

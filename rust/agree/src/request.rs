@@ -1,7 +1,6 @@
 //! Requests and answers as runs of 32-bit words, one after another. A request is the number of a call, its numbers, and each of its buffers as
 //! a count of bytes and the bytes, four to a word; an answer is its fields, and the bytes of each buffer that was lent.
 use crate::call::{Call, Use};
-use dukthari::Component;
 
 pub fn words_of(bytes: usize) -> usize {
     (bytes + 3) / 4
@@ -119,8 +118,10 @@ impl Room {
         unsafe { std::slice::from_raw_parts_mut(bytes.as_mut_ptr().cast(), bytes.len() / 2) }
     }
 
-    pub fn records_mut(&mut self) -> &mut [Component] {
+    /// Records as one of the three has them: each is a count of 16 bits and six coordinates of 8.
+    pub fn records_mut<Component>(&mut self) -> &mut [Component] {
+        assert_eq!(std::mem::size_of::<Component>(), 8);
         let bytes = self.bytes_mut();
-        unsafe { std::slice::from_raw_parts_mut(bytes.as_mut_ptr().cast(), bytes.len() / std::mem::size_of::<Component>()) }
+        unsafe { std::slice::from_raw_parts_mut(bytes.as_mut_ptr().cast(), bytes.len() / 8) }
     }
 }

@@ -15,20 +15,15 @@ impl Comparison {
     fn pair(&mut self, r: &mut Random, size: Size, start: usize, end: usize, cells: &[u8], every_node: bool) {
         let [w, h, d] = size;
         let numbers = |start: usize| [w, h, d, start as u32, end as u32];
-        let verdict = self.asks(Call::Verdict).then(|| self.case(Call::Verdict, &numbers(start), &[cells]));
-        if self.asks(Call::Reached) {
-            let out = if r.percent(5) { maps::short_room(r, nodes(size), 1) } else { maps::room(r, nodes(size), 1) };
-            self.case(Call::Reached, &numbers(start), &[cells, &out]);
-        }
-        if self.asks(Call::Route) {
-            let hops = verdict.map_or(45, |v| v[2] as usize);
-            let out = if r.percent(10) { maps::short_room(r, hops + 1, 2) } else { maps::room(r, hops + 1, 2) };
-            let answer = self.case(Call::Route, &numbers(start), &[cells, &out]);
-            if every_node && answer[0] == 0 && self.asks(Call::Verdict) {
-                let node = |i: usize| (answer[3 + i / 2] >> (16 * (i % 2)) & 0xFFFF) as usize;
-                for i in 1..answer[2] as usize {
-                    self.case(Call::Verdict, &numbers(node(i)), &[cells]);
-                }
+        let hops = self.case(Call::Verdict, &numbers(start), &[cells])[2] as usize;
+        let out = if r.percent(5) { maps::short_room(r, nodes(size), 1) } else { maps::room(r, nodes(size), 1) };
+        self.case(Call::Reached, &numbers(start), &[cells, &out]);
+        let out = if r.percent(10) { maps::short_room(r, hops + 1, 2) } else { maps::room(r, hops + 1, 2) };
+        let answer = self.case(Call::Route, &numbers(start), &[cells, &out]);
+        if every_node && answer[0] == 0 {
+            let node = |i: usize| (answer[3 + i / 2] >> (16 * (i % 2)) & 0xFFFF) as usize;
+            for i in 1..answer[2] as usize {
+                self.case(Call::Verdict, &numbers(node(i)), &[cells]);
             }
         }
     }
@@ -53,17 +48,13 @@ impl Comparison {
         let start = if has(8) { maps::above(r, count as u32 - 1) } else { start as u32 };
         let end = if has(16) { maps::above(r, count as u32 - 1) } else { end as u32 };
         let numbers = [w, h, d, start, end];
-        if self.asks(Call::Verdict) && !has(256) {
+        if !has(256) {
             self.case(Call::Verdict, &numbers, &[&cells]);
         }
-        if self.asks(Call::Route) {
-            let out = if has(256) { Vec::new() } else { r.bytes(2 * 46) };
-            self.case(Call::Route, &numbers, &[&cells, &out]);
-        }
-        if self.asks(Call::Reached) {
-            let out = if has(256) { maps::short_room(r, count, 1) } else { maps::room(r, count, 1) };
-            self.case(Call::Reached, &numbers, &[&cells, &out]);
-        }
+        let out = if has(256) { Vec::new() } else { r.bytes(2 * 46) };
+        self.case(Call::Route, &numbers, &[&cells, &out]);
+        let out = if has(256) { maps::short_room(r, count, 1) } else { maps::room(r, count, 1) };
+        self.case(Call::Reached, &numbers, &[&cells, &out]);
     }
 }
 

@@ -67,54 +67,44 @@ impl Comparison {
 }
 
 pub fn all(all: &mut Comparison) {
-    if all.asks(Call::Marks) {
-        let mut bytes = vec![0; 25];
-        (bytes[6], bytes[12], bytes[7], bytes[11]) = (2, 4, 1, 1);
-        is(1, all.marks_of(P, 0, &p()), bytes);
-        is(2, all.marks_of(P, 1, &p()), p());
-        let cross = map([3, 3, 1], &[[1, 0, 0], [0, 1, 0], [2, 1, 0], [1, 2, 0]]);
-        is(10, all.marks_of([3, 3, 1], 0, &cross), vec![2, 1, 0, 1, 6, 1, 0, 1, 4]);
-        let bytes = all.marks_of(TEN, 0, &ten());
-        is(12, [bytes[555], bytes[755], bytes[566]], [2, 4, 0]);
+    let mut bytes = vec![0; 25];
+    (bytes[6], bytes[12], bytes[7], bytes[11]) = (2, 4, 1, 1);
+    is(1, all.marks_of(P, 0, &p()), bytes);
+    is(2, all.marks_of(P, 1, &p()), p());
+    let cross = map([3, 3, 1], &[[1, 0, 0], [0, 1, 0], [2, 1, 0], [1, 2, 0]]);
+    is(10, all.marks_of([3, 3, 1], 0, &cross), vec![2, 1, 0, 1, 6, 1, 0, 1, 4]);
+    let bytes = all.marks_of(TEN, 0, &ten());
+    is(12, [bytes[555], bytes[755], bytes[566]], [2, 4, 0]);
+    is(1, all.components_of(P, 0, &p()), (vec![4], vec![1, 1, 0, 2, 2, 0]));
+    is(2, all.components_of(P, 1, &p()).0, vec![2]);
+    let mut counts = all.components_of(TEN, 0, &ten()).0;
+    counts.sort_unstable();
+    is(12, counts, vec![1, 9]);
+    is(3, all.verdict_of(0, 24), vec![0, 0, 8, 5]);
+    is(3, all.verdict_of(1, 24)[3], 1);
+    is(4, all.verdict_of(6, 24), vec![10, 0, 0, 0]);
+    is(4, all.verdict_of(6, 6), vec![0, 0, 0, 0]);
+    is(5, all.verdict_of(5, 6)[2], 1);
+    is(6, all.verdict_of(0, 12), vec![10, 0, 0, 0]);
+    is(6, all.verdict_of(12, 24)[2], 4);
+    is(7, all.verdict_of(2, 17), vec![10, 0, 0, 0]);
+    is(8, all.verdict_of(24, 0), vec![0, 0, 8, 10]);
+    is(9, all.verdict_of(7, 24), vec![9, 0, 0, 0]);
+    is(9, all.verdict_of(25, 7), vec![5, 0, 0, 0]);
+    is(3, all.route_of(0, 24), vec![0, 1, 2, 3, 4, 9, 14, 19, 24]);
+    is(4, all.route_of(6, 6), vec![6]);
+    is(8, all.route_of(24, 0), vec![24, 23, 22, 21, 20, 15, 10, 5, 0]);
+    let cells = map(CORNER, &[[2, 1, 0], [1, 2, 0], [0, 2, 0]]);
+    let answer = all.case(Call::Fresh, &[4, 4, 1, 0], &[&cells, &[9; 112]]);
+    let mut state = lent(Call::Fresh, &answer, 112);
+    is(11, all.outstanding_of(&state), 4);
+    is(11, all.heard_by(4, 0, 4, &mut state), 8);
+    is(11, all.heard_by(4, 0, 2, &mut state), 0);
+    is(11, (state[7 * 4], all.outstanding_of(&state)), (2, 5));
+    for (listener, direction, word) in [(0, 2, 2), (1, 2, 2), (5, 1, 2), (11, 1, 4), (14, 3, 4)] {
+        is(11, all.heard_by(listener, direction, word, &mut state), 0);
     }
-    if all.asks(Call::Components) {
-        is(1, all.components_of(P, 0, &p()), (vec![4], vec![1, 1, 0, 2, 2, 0]));
-        is(2, all.components_of(P, 1, &p()).0, vec![2]);
-        let mut counts = all.components_of(TEN, 0, &ten()).0;
-        counts.sort_unstable();
-        is(12, counts, vec![1, 9]);
-    }
-    if all.asks(Call::Verdict) {
-        is(3, all.verdict_of(0, 24), vec![0, 0, 8, 5]);
-        is(3, all.verdict_of(1, 24)[3], 1);
-        is(4, all.verdict_of(6, 24), vec![10, 0, 0, 0]);
-        is(4, all.verdict_of(6, 6), vec![0, 0, 0, 0]);
-        is(5, all.verdict_of(5, 6)[2], 1);
-        is(6, all.verdict_of(0, 12), vec![10, 0, 0, 0]);
-        is(6, all.verdict_of(12, 24)[2], 4);
-        is(7, all.verdict_of(2, 17), vec![10, 0, 0, 0]);
-        is(8, all.verdict_of(24, 0), vec![0, 0, 8, 10]);
-        is(9, all.verdict_of(7, 24), vec![9, 0, 0, 0]);
-        is(9, all.verdict_of(25, 7), vec![5, 0, 0, 0]);
-    }
-    if all.asks(Call::Route) {
-        is(3, all.route_of(0, 24), vec![0, 1, 2, 3, 4, 9, 14, 19, 24]);
-        is(4, all.route_of(6, 6), vec![6]);
-        is(8, all.route_of(24, 0), vec![24, 23, 22, 21, 20, 15, 10, 5, 0]);
-    }
-    if [Call::Fresh, Call::Outstanding, Call::Hear].iter().all(|call| all.asks(*call)) {
-        let cells = map(CORNER, &[[2, 1, 0], [1, 2, 0], [0, 2, 0]]);
-        let answer = all.case(Call::Fresh, &[4, 4, 1, 0], &[&cells, &[9; 112]]);
-        let mut state = lent(Call::Fresh, &answer, 112);
-        is(11, all.outstanding_of(&state), 4);
-        is(11, all.heard_by(4, 0, 4, &mut state), 8);
-        is(11, all.heard_by(4, 0, 2, &mut state), 0);
-        is(11, (state[7 * 4], all.outstanding_of(&state)), (2, 5));
-        for (listener, direction, word) in [(0, 2, 2), (1, 2, 2), (5, 1, 2), (11, 1, 4), (14, 3, 4)] {
-            is(11, all.heard_by(listener, direction, word, &mut state), 0);
-        }
-        is(11, all.outstanding_of(&state), 0);
-    }
+    is(11, all.outstanding_of(&state), 0);
 }
 
 /// Sample 12.

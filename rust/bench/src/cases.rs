@@ -1,8 +1,8 @@
 //! Each call on its inputs: the library beside plain Rust.
-use crate::inputs::{corners, maps, near, neighbour, settled, Cube, Pair};
+use crate::inputs::{corners, maps, near, neighbour, places, settled, Cube, Pair};
 use crate::timing::{Case, Fields, Row};
 use dukthari::answers::{Counted, Done};
-use dukthari::{calls, Component};
+use dukthari::{calls, Component, Place};
 use plain::Refused;
 use std::time::Instant;
 
@@ -42,10 +42,57 @@ fn count(n: usize) -> [u32; 3] {
     [n as u32, 0, 0]
 }
 
+pub fn number(cube: Cube, rows: &mut Vec<Row>) {
+    let places = places(cube);
+    let library = |i: usize, (): &mut ()| {
+        let [x, y, z] = places[i];
+        let a = calls::number(cube.sizes(), Place { x, y, z });
+        [a.refusal, 0, a.node, 0, 0]
+    };
+    let plain = |i: usize, (): &mut ()| fields(plain::number(cube.size(), places[i]), |node| [node, 0, 0]);
+    let input = "every place".to_string();
+    rows.push(
+        Case { cube, call: "dk_number", input, inputs: cube.nodes(), library: &library, plain: &plain, same: |(), ()| true }.run((), ()),
+    );
+}
+
+pub fn place(cube: Cube, rows: &mut Vec<Row>) {
+    let library = |i: usize, (): &mut ()| {
+        let a = calls::place(cube.sizes(), i as u32);
+        [a.refusal, 0, a.x, a.y, a.z]
+    };
+    let plain = |i: usize, (): &mut ()| fields(plain::place(cube.size(), i as u32), |place| place);
+    let input = "every node".to_string();
+    rows.push(
+        Case { cube, call: "dk_place", input, inputs: cube.nodes(), library: &library, plain: &plain, same: |(), ()| true }.run((), ()),
+    );
+}
+
+pub fn step(cube: Cube, rows: &mut Vec<Row>) {
+    let steps: Vec<_> = places(cube).into_iter().flat_map(|place| (0..6).map(move |direction| (place, direction))).collect();
+    let library = |i: usize, (): &mut ()| {
+        let ([x, y, z], direction) = steps[i];
+        let a = calls::step(cube.sizes(), Place { x, y, z }, direction);
+        [a.refusal, a.there, a.x, a.y, a.z]
+    };
+    let plain = |i: usize, (): &mut ()| {
+        let (place, direction) = steps[i];
+        match plain::step(cube.size(), place, direction) {
+            Ok(Some([x, y, z])) => [0, 1, x, y, z],
+            Ok(None) => [0; 5],
+            Err(r) => [r.number, 0, 0, 0, 0],
+        }
+    };
+    let input = "every place and direction".to_string();
+    rows.push(
+        Case { cube, call: "dk_step", input, inputs: steps.len(), library: &library, plain: &plain, same: |(), ()| true }.run((), ()),
+    );
+}
+
 pub fn marks(cube: Cube, rows: &mut Vec<Row>) {
     for &percent in densities(cube) {
         let maps = maps(cube, percent, 16);
-        let input = |i: usize| (i as u32 % 8, &maps[i / 8 % maps.len()][..]);
+        let input = |i: usize| (i as u32 % 8, &maps[i / 8][..]);
         let library = |i: usize, out: &mut Vec<u8>| {
             let (orientation, cells) = input(i);
             done(calls::marks(cube.sizes(), orientation, cells, out))
@@ -72,7 +119,7 @@ pub fn marks(cube: Cube, rows: &mut Vec<Row>) {
 pub fn components(cube: Cube, rows: &mut Vec<Row>) {
     for &percent in densities(cube) {
         let maps = maps(cube, percent, 16);
-        let input = |i: usize| (i as u32 % 8, &maps[i / 8 % maps.len()][..]);
+        let input = |i: usize| (i as u32 % 8, &maps[i / 8][..]);
         let library = |i: usize, (table, row): &mut (Vec<u16>, Vec<Component>)| {
             let (orientation, cells) = input(i);
             counted(calls::components(cube.sizes(), orientation, cells, table, row))
@@ -109,12 +156,12 @@ fn pairs(cube: Cube) -> Vec<(String, Vec<Pair>)> {
 pub fn verdict(cube: Cube, rows: &mut Vec<Row>) {
     for (input, pairs) in pairs(cube) {
         let library = |i: usize, (): &mut ()| {
-            let p = &pairs[i % pairs.len()];
+            let p = &pairs[i];
             let a = calls::verdict(cube.sizes(), p.start, p.end, &p.cells);
             [a.refusal, a.bad, a.hops, a.offered, 0]
         };
         let plain = |i: usize, (): &mut ()| {
-            let p = &pairs[i % pairs.len()];
+            let p = &pairs[i];
             fields(plain::verdict(cube.size(), p.start, p.end, &p.cells), |v| [v.hops, v.offered, 0])
         };
         rows.push(
@@ -127,11 +174,11 @@ pub fn verdict(cube: Cube, rows: &mut Vec<Row>) {
 pub fn route(cube: Cube, rows: &mut Vec<Row>) {
     for (input, pairs) in pairs(cube) {
         let library = |i: usize, out: &mut Vec<u16>| {
-            let p = &pairs[i % pairs.len()];
+            let p = &pairs[i];
             counted(calls::route(cube.sizes(), p.start, p.end, &p.cells, out))
         };
         let plain = |i: usize, out: &mut Vec<u16>| {
-            let p = &pairs[i % pairs.len()];
+            let p = &pairs[i];
             fields(plain::route(cube.size(), p.start, p.end, &p.cells, out), count)
         };
         rows.push(
@@ -144,11 +191,11 @@ pub fn route(cube: Cube, rows: &mut Vec<Row>) {
 pub fn reached(cube: Cube, rows: &mut Vec<Row>) {
     for (input, pairs) in pairs(cube) {
         let library = |i: usize, out: &mut Vec<u8>| {
-            let p = &pairs[i % pairs.len()];
+            let p = &pairs[i];
             counted(calls::reached(cube.sizes(), p.start, p.end, &p.cells, out))
         };
         let plain = |i: usize, out: &mut Vec<u8>| {
-            let p = &pairs[i % pairs.len()];
+            let p = &pairs[i];
             fields(plain::reached(cube.size(), p.start, p.end, &p.cells, out), count)
         };
         rows.push(
@@ -161,8 +208,8 @@ pub fn reached(cube: Cube, rows: &mut Vec<Row>) {
 pub fn fresh(cube: Cube, rows: &mut Vec<Row>) {
     for &percent in densities(cube) {
         let maps = maps(cube, percent, 16);
-        let library = |i: usize, state: &mut Vec<u8>| done(calls::fresh(cube.sizes(), 5, &maps[i % maps.len()], state));
-        let plain = |i: usize, state: &mut Vec<u8>| fields(plain::fresh(cube.size(), 5, &maps[i % maps.len()], state), nothing);
+        let library = |i: usize, state: &mut Vec<u8>| done(calls::fresh(cube.sizes(), 5, &maps[i], state));
+        let plain = |i: usize, state: &mut Vec<u8>| fields(plain::fresh(cube.size(), 5, &maps[i], state), nothing);
         rows.push(
             Case {
                 cube,
@@ -223,10 +270,10 @@ pub fn hear(cube: Cube, rows: &mut Vec<Row>) {
 pub fn read_map(cube: Cube, rows: &mut Vec<Row>) {
     let files: Vec<Vec<u8>> = maps(cube, 10, 16).iter().map(|cells| file(cube, cells)).collect();
     let library = |i: usize, cells: &mut Vec<u8>| {
-        let a = calls::read_map(&files[i % files.len()], cells);
+        let a = calls::read_map(&files[i], cells);
         [a.refusal, a.bad, a.w, a.h, a.d]
     };
-    let plain = |i: usize, cells: &mut Vec<u8>| fields(plain::read_map(&files[i % files.len()], cells), |s| s);
+    let plain = |i: usize, cells: &mut Vec<u8>| fields(plain::read_map(&files[i], cells), |s| s);
     rows.push(
         Case {
             cube,
@@ -249,8 +296,8 @@ fn file(cube: Cube, cells: &[u8]) -> Vec<u8> {
 
 pub fn write_map(cube: Cube, rows: &mut Vec<Row>) {
     let maps = maps(cube, 10, 16);
-    let library = |i: usize, out: &mut Vec<u8>| counted(calls::write_map(cube.sizes(), &maps[i % maps.len()], out));
-    let plain = |i: usize, out: &mut Vec<u8>| fields(plain::write_map(cube.size(), &maps[i % maps.len()], out), count);
+    let library = |i: usize, out: &mut Vec<u8>| counted(calls::write_map(cube.sizes(), &maps[i], out));
+    let plain = |i: usize, out: &mut Vec<u8>| fields(plain::write_map(cube.size(), &maps[i], out), count);
     rows.push(
         Case {
             cube,
@@ -286,5 +333,6 @@ pub fn gossip() {
         }
     }
     let seconds = begun.elapsed().as_secs_f64();
-    println!("a whole gossip of 4,096 nodes, 30 % of them faulty: {rounds} full rounds, {words} words heard, {seconds:.2} s");
+    println!();
+    println!("A whole gossip of 4,096 nodes, 30 % of them faulty: {rounds} full rounds, {words} words heard, {seconds:.2} s.");
 }

@@ -32,6 +32,12 @@ impl fmt::Display for Cube {
     }
 }
 
+/// Every place of a cube, in node order.
+pub fn places(cube: Cube) -> Vec<[u32; 3]> {
+    let by = cube.side;
+    (0..cube.nodes() as u32).map(|node| [node % by, node / by % by, node / by / by]).collect()
+}
+
 /// Numbers that look random and are the same in each run.
 pub struct Random(u64);
 

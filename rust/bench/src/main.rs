@@ -13,7 +13,10 @@ use timing::Row;
 /// Times a call on a mesh.
 type Timed = fn(Cube, &mut Vec<Row>);
 
-const ALL: [(&str, Timed); 11] = [
+const ALL: [(&str, Timed); 14] = [
+    ("dk_number", cases::number),
+    ("dk_place", cases::place),
+    ("dk_step", cases::step),
     ("dk_marks", cases::marks),
     ("dk_components", cases::components),
     ("dk_verdict", cases::verdict),
@@ -27,14 +30,25 @@ const ALL: [(&str, Timed); 11] = [
     ("dk_write_map", cases::write_map),
 ];
 
+fn stop(why: &str) -> ! {
+    eprintln!("{why}");
+    std::process::exit(1);
+}
+
 fn main() {
     if !dukthari::LINKED {
-        println!("there is no archive for this machine: rust/measure makes it");
-        std::process::exit(1);
+        stop("there is no archive for this machine: rust/measure makes it");
     }
-    let mut chosen: Vec<String> = std::env::args().skip(1).collect();
-    let folder = chosen.iter().position(|word| word == "--pictures").map(|i| chosen.drain(i..(i + 2).min(chosen.len())).last().unwrap());
-    let wanted = |call: &str| dukthari::declares(call) && (chosen.is_empty() || chosen.iter().any(|part| call.contains(&part[..])));
+    let (mut chosen, mut folder) = (Vec::new(), None);
+    let mut words = std::env::args().skip(1);
+    while let Some(word) = words.next() {
+        match &word[..] {
+            "--pictures" => folder = Some(words.next().unwrap_or_else(|| stop("--pictures wants the name of a folder"))),
+            part if ALL.iter().any(|(call, _)| call.contains(part)) => chosen.push(word),
+            part => stop(&format!("no call has {part} in its name; usage: rust/measure [CALL..] [--pictures FOLDER]")),
+        }
+    }
+    let wanted = |call: &str| chosen.is_empty() || chosen.iter().any(|part| call.contains(&part[..]));
     let mut rows = Vec::new();
     println!("| Call | Mesh | Input | Library, ns | Plain Rust, ns | Ratio | Half of the ratios in |");
     println!("|---|---|---|---|---|---|---|");
@@ -51,7 +65,7 @@ fn main() {
     if let Some(folder) = folder {
         for (name, text) in [("speed", picture::ratios(&rows)), ("growth", picture::growth(&rows))] {
             let file = format!("{folder}/{name}.svg");
-            std::fs::write(&file, text).unwrap_or_else(|e| panic!("{file}: {e}"));
+            std::fs::write(&file, text).unwrap_or_else(|e| stop(&format!("{file}: {e}")));
         }
     }
 }

@@ -44,9 +44,9 @@ pub fn ratios(rows: &[Row]) -> String {
     text + "</svg>\n"
 }
 
-/// The largest mesh's number of nodes stands at the right, each factor of ten of time as high as the others, from 10 ns to 100 us.
+/// The largest mesh's number of nodes stands at the right, each factor of ten of time as high as the others, from 1 ns to 100 µs.
 fn spot(nodes: f64, ns: f64) -> (f64, f64) {
-    (60.0 + 560.0 * (nodes / 64.0).ln() / 64f64.ln(), 560.0 - 125.0 * (ns / 10.0).log10())
+    (60.0 + 560.0 * (nodes / 64.0).ln() / 64f64.ln(), 560.0 - 100.0 * ns.log10())
 }
 
 /// The rows that were timed on every mesh: the first input of each call that the smallest mesh has too.
@@ -58,13 +58,13 @@ fn grown(rows: &[Row]) -> Vec<Vec<&Row>> {
 
 pub fn growth(rows: &[Row]) -> String {
     let mut text = begin(780.0, 610, "Time of a call of the library by the number of nodes, 10 % of them faulty");
-    for (power, word) in ["10 ns", "100 ns", "1 us", "10 us", "100 us"].iter().enumerate() {
-        let y = spot(64.0, 10f64.powi(power as i32 + 1)).1;
+    for (power, word) in ["1 ns", "10 ns", "100 ns", "1 µs", "10 µs", "100 µs"].iter().enumerate() {
+        let y = spot(64.0, 10f64.powi(power as i32)).1;
         writeln!(text, r##"<line x1="60" y1="{y:.0}" x2="620" y2="{y:.0}" stroke="#ccc"/><text x="10" y="{:.0}">{word}</text>"##, y + 4.0)
             .unwrap();
     }
     for side in [4, 8, 12, 16] {
-        let x = spot((side * side * side) as f64, 10.0).0;
+        let x = spot((side * side * side) as f64, 1.0).0;
         writeln!(text, r##"<line x1="{x:.0}" y1="60" x2="{x:.0}" y2="560" stroke="#ccc"/>"##).unwrap();
         writeln!(text, r##"<text x="{x:.0}" y="580" text-anchor="middle">{side} × {side} × {side}</text>"##).unwrap();
     }

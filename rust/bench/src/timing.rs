@@ -36,10 +36,13 @@ fn used<T>(value: T) {
     unsafe { std::ptr::read_volatile(&value) };
 }
 
-fn short_run<B>(call: &dyn Fn(usize, &mut B) -> Fields, buffer: &mut B, calls: usize) -> Duration {
+/// So many times all inputs.
+fn short_run<B>(call: &dyn Fn(usize, &mut B) -> Fields, buffer: &mut B, inputs: usize, times: usize) -> Duration {
     let begun = Instant::now();
-    for i in 0..calls {
-        used(call(i, buffer));
+    for _ in 0..times {
+        for i in 0..inputs {
+            used(call(i, buffer));
+        }
     }
     begun.elapsed()
 }
@@ -61,22 +64,24 @@ impl<B, C> Case<'_, B, C> {
                 std::process::exit(1);
             }
         }
-        let mut calls = self.inputs;
-        while short_run(self.library, &mut ours, calls) < LONG {
-            calls *= 2;
+        let mut times = 1;
+        while short_run(self.library, &mut ours, self.inputs, times) < LONG {
+            times *= 2;
         }
+        let calls = (times * self.inputs) as f64;
         let mut runs = Vec::new();
         for _ in 0..RUNS {
-            let library = short_run(self.library, &mut ours, calls).as_nanos() as f64;
-            let plain = short_run(self.plain, &mut theirs, calls).as_nanos() as f64;
-            runs.push((library / calls as f64, plain / calls as f64));
+            let library = short_run(self.library, &mut ours, self.inputs, times).as_nanos() as f64;
+            let plain = short_run(self.plain, &mut theirs, self.inputs, times).as_nanos() as f64;
+            runs.push((library / calls, plain / calls));
         }
         let (library, plain) = (at(0.5, runs.iter().map(|r| r.0)), at(0.5, runs.iter().map(|r| r.1)));
         let spread = [0.25, 0.75].map(|part| at(part, runs.iter().map(|r| r.0 / r.1)));
         let row = Row { cube: self.cube, call: self.call, input: self.input.clone(), library, ratio: library / plain, spread };
         let [low, high] = spread;
+        let digits = usize::from(library < 100.0);
         println!(
-            "| `{}` | {} | {} | {library:.0} | {plain:.0} | {:.2} | {low:.2} to {high:.2} |",
+            "| `{}` | {} | {} | {library:.digits$} | {plain:.digits$} | {:.2} | {low:.2} to {high:.2} |",
             row.call, row.cube, row.input, row.ratio
         );
         row

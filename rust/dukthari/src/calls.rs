@@ -3,40 +3,41 @@
 use crate::answers::{Counted, Done, MapAnswer, NodeAnswer, PlaceAnswer, StepAnswer, VerdictAnswer};
 use crate::{Component, Place, Sizes};
 
-/// Declares the C functions that are linked. Another cannot be asked.
+/// Declares the C functions. Where no archive is linked, they cannot be asked.
 macro_rules! declare {
-    ($($call:literal fn $name:ident($($argument:ident: $kind:ty),*) -> $answer:ty;)*) => {$(
-        #[cfg(has = $call)]
+    ($(fn $name:ident($($argument:ident: $kind:ty),*) -> $answer:ty;)*) => {$(
+        #[cfg(linked)]
         extern "C" {
             fn $name($($argument: $kind),*) -> $answer;
         }
-        #[cfg(not(has = $call))]
+        #[cfg(not(linked))]
+        #[allow(clippy::too_many_arguments)]
         unsafe fn $name($(_: $kind),*) -> $answer {
-            panic!(concat!($call, " is not linked: there was no archive for this machine, or the header does not declare it"))
+            panic!(concat!(stringify!($name), " is not linked: there was no archive for this machine"))
         }
     )*};
 }
 
 declare! {
-    "dk_number" fn dk_number(w: u32, h: u32, d: u32, x: u32, y: u32, z: u32) -> NodeAnswer;
-    "dk_place" fn dk_place(w: u32, h: u32, d: u32, node: u32) -> PlaceAnswer;
-    "dk_step" fn dk_step(w: u32, h: u32, d: u32, x: u32, y: u32, z: u32, direction: u32) -> StepAnswer;
-    "dk_marks" fn dk_marks(w: u32, h: u32, d: u32, orientation: u32, cells: *const u8, cells_len: usize, out: *mut u8, out_len: usize) -> Done;
-    "dk_components" fn dk_components(w: u32, h: u32, d: u32, orientation: u32, cells: *const u8, cells_len: usize,
+    fn dk_number(w: u32, h: u32, d: u32, x: u32, y: u32, z: u32) -> NodeAnswer;
+    fn dk_place(w: u32, h: u32, d: u32, node: u32) -> PlaceAnswer;
+    fn dk_step(w: u32, h: u32, d: u32, x: u32, y: u32, z: u32, direction: u32) -> StepAnswer;
+    fn dk_marks(w: u32, h: u32, d: u32, orientation: u32, cells: *const u8, cells_len: usize, out: *mut u8, out_len: usize) -> Done;
+    fn dk_components(w: u32, h: u32, d: u32, orientation: u32, cells: *const u8, cells_len: usize,
         table: *mut u16, table_len: usize, row: *mut Component, row_len: usize) -> Counted;
-    "dk_verdict" fn dk_verdict(w: u32, h: u32, d: u32, start: u32, end: u32, cells: *const u8, cells_len: usize) -> VerdictAnswer;
-    "dk_route" fn dk_route(w: u32, h: u32, d: u32, start: u32, end: u32, cells: *const u8, cells_len: usize,
+    fn dk_verdict(w: u32, h: u32, d: u32, start: u32, end: u32, cells: *const u8, cells_len: usize) -> VerdictAnswer;
+    fn dk_route(w: u32, h: u32, d: u32, start: u32, end: u32, cells: *const u8, cells_len: usize,
         out: *mut u16, out_len: usize) -> Counted;
-    "dk_reached" fn dk_reached(w: u32, h: u32, d: u32, start: u32, end: u32, cells: *const u8, cells_len: usize,
+    fn dk_reached(w: u32, h: u32, d: u32, start: u32, end: u32, cells: *const u8, cells_len: usize,
         out: *mut u8, out_len: usize) -> Counted;
-    "dk_fresh" fn dk_fresh(w: u32, h: u32, d: u32, orientation: u32, cells: *const u8, cells_len: usize,
+    fn dk_fresh(w: u32, h: u32, d: u32, orientation: u32, cells: *const u8, cells_len: usize,
         state: *mut u8, state_len: usize) -> Done;
-    "dk_sound" fn dk_sound(w: u32, h: u32, d: u32, orientation: u32, state: *const u8, state_len: usize) -> Done;
-    "dk_outstanding" fn dk_outstanding(w: u32, h: u32, d: u32, orientation: u32, state: *const u8, state_len: usize) -> Counted;
-    "dk_hear" fn dk_hear(w: u32, h: u32, d: u32, orientation: u32, listener: u32, direction: u32, word: u32,
+    fn dk_sound(w: u32, h: u32, d: u32, orientation: u32, state: *const u8, state_len: usize) -> Done;
+    fn dk_outstanding(w: u32, h: u32, d: u32, orientation: u32, state: *const u8, state_len: usize) -> Counted;
+    fn dk_hear(w: u32, h: u32, d: u32, orientation: u32, listener: u32, direction: u32, word: u32,
         state: *mut u8, state_len: usize) -> Done;
-    "dk_read_map" fn dk_read_map(file: *const u8, file_len: usize, cells: *mut u8, cells_len: usize) -> MapAnswer;
-    "dk_write_map" fn dk_write_map(w: u32, h: u32, d: u32, cells: *const u8, cells_len: usize, out: *mut u8, out_len: usize) -> Counted;
+    fn dk_read_map(file: *const u8, file_len: usize, cells: *mut u8, cells_len: usize) -> MapAnswer;
+    fn dk_write_map(w: u32, h: u32, d: u32, cells: *const u8, cells_len: usize, out: *mut u8, out_len: usize) -> Counted;
 }
 
 pub fn number(s: Sizes, p: Place) -> NodeAnswer {

@@ -1,5 +1,5 @@
 //! The nodes that tell each other their marks.
-use crate::{Map, Mark, Refusal, Sizes};
+use crate::{Map, Mark, Marks, Refusal, Sizes};
 
 /// The state of the talking nodes of a mesh in one orientation: for each node its own mark, and what it has heard from each neighbour. It is
 /// always sound: it begins so, and hearing keeps it so.
@@ -75,8 +75,8 @@ impl Field {
     }
 
     /// What each node knows of itself. Once the state is settled these are the marks of the map.
-    pub fn marks(&self) -> crate::Marks {
-        crate::Marks { bytes: self.state.chunks_exact(7).map(|bytes| bytes[0]).collect() }
+    pub fn marks(&self) -> Marks {
+        Marks { bytes: self.state.chunks_exact(7).map(|bytes| bytes[0]).collect() }
     }
 
     /// How many words are outstanding: pairs of working neighbours in which the listener has not heard what the speaker now holds.

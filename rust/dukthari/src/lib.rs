@@ -25,10 +25,9 @@
 //! `rust/compare` holds it to an independent search program. [`Sizes`] has every call with slices that the caller lends, and [`answers`] and
 //! [`calls`] have them as they come, field by field.
 //!
-//! The archive must be there first: target/staticlib/libdukthari.a on x86-64, made by `rt staticlib dukthari`, and
-//! target/native/libdukthari.a on another machine, made by `rust/native`. Without it this crate is built all the same, with a warning, and
-//! each call panics.
-#![allow(unknown_lints, unexpected_cfgs)] // build.rs sets `linked`, and `has` for each call that is linked
+//! The archive must be there first: `make` at the top of the tree makes it, target/staticlib/libdukthari.a on x86-64 and
+//! target/native/libdukthari.a elsewhere. Without it this crate is built all the same, with a warning, and each call panics.
+#![allow(unknown_lints, unexpected_cfgs)] // build.rs sets `linked`
 #![deny(unsafe_code)]
 
 pub mod answers;
@@ -47,15 +46,8 @@ pub use field::{Field, Word};
 pub use map::Map;
 pub use marks::{Component, Components, Mark, Marks};
 pub use refusal::Refusal;
-#[cfg(has = "dk_reached")]
-pub use route::Reached;
-pub use route::{Nodes, Route, Verdict};
+pub use route::{Nodes, Reached, Route, Verdict};
 pub use sizes::{Place, Sizes};
 
 /// Whether there was an archive to link.
 pub const LINKED: bool = cfg!(linked);
-
-/// Whether include/dukthari.h declares a call of this name.
-pub fn declares(call: &str) -> bool {
-    env!("DUKTHARI_CALLS").split(' ').any(|name| name == call)
-}

@@ -1,5 +1,5 @@
 //! A map that owns its sizes and cells.
-use crate::{Component, Components, Marks, Place, Refusal, Route, Sizes, Verdict};
+use crate::{Component, Components, Marks, Place, Reached, Refusal, Route, Sizes, Verdict};
 
 /// The longest map file without notes: 4,096 cells and the trailer.
 const FILE: usize = 4096 + 12;
@@ -166,10 +166,9 @@ impl Map {
     /// assert_eq!(reached.count(), 1);
     /// # Ok::<(), Box<dyn std::error::Error>>(())
     /// ```
-    #[cfg(has = "dk_reached")]
-    pub fn reached(&self, start: u32, end: u32) -> Result<crate::Reached, Refusal> {
+    pub fn reached(&self, start: u32, end: u32) -> Result<Reached, Refusal> {
         let mut bytes = vec![0; self.cells.len()];
         let count = self.sizes.reached(start, end, &self.cells, &mut bytes)?;
-        Ok(crate::Reached { bytes, count })
+        Ok(Reached { bytes, count })
     }
 }

@@ -97,14 +97,12 @@ impl DoubleEndedIterator for Nodes<'_> {
 impl ExactSizeIterator for Nodes<'_> {}
 
 /// The nodes that paths towards an end reach from a start.
-#[cfg(has = "dk_reached")]
 #[derive(Clone, Debug, PartialEq, Eq)]
 pub struct Reached {
     pub(crate) bytes: Vec<u8>,
     pub(crate) count: usize,
 }
 
-#[cfg(has = "dk_reached")]
 impl Reached {
     /// One byte for each node, in node order: 1 where it is reached, else 0.
     pub fn bytes(&self) -> &[u8] {

@@ -97,7 +97,6 @@ fn talking_nodes_settle_at_the_marks() {
     });
 }
 
-#[cfg(has = "dk_reached")]
 #[test]
 fn what_is_reached_shows_the_verdict() {
     on_maps(1000, |numbers, map| {

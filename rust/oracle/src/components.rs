@@ -3,6 +3,7 @@ use crate::map::{counted, refuse_if, Map};
 use crate::marks::marks_of;
 
 /// "count of nodes, least and greatest coordinate on each axis"
+#[repr(C)]
 #[derive(Clone, Copy, Debug, PartialEq, Eq)]
 pub struct Component {
     pub count: u16,
@@ -29,7 +30,7 @@ fn touching(map: &Map, node: usize) -> Vec<usize> {
 
 /// For each unsafe node the lowest node of its component: at first itself, then the lowest of those that touch it, until nothing changes.
 fn lowest(map: &Map, marks: &[u8]) -> Vec<Option<usize>> {
-    let mut low: Vec<Option<usize>> = (0..map.nodes()).map(|node| (marks[node] != 0).then(|| node)).collect();
+    let mut low: Vec<Option<usize>> = (0..map.nodes()).map(|node| (marks[node] != 0).then_some(node)).collect();
     let beside: Vec<Vec<usize>> = (0..map.nodes())
         .map(|node| match low[node] {
             Some(_) => touching(map, node).into_iter().filter(|q| marks[*q] != 0).collect(),

@@ -96,9 +96,9 @@ fn label(sizes: Sizes, marks: &[u8]) -> (Grid, Vec<Component>) {
         while let Some(at) = queue.pop() {
             record.count += 1;
             let place = grid.place(at);
-            for axis in 0..3 {
-                record.least[axis] = record.least[axis].min(place[axis]);
-                record.greatest[axis] = record.greatest[axis].max(place[axis]);
+            for (axis, n) in place.into_iter().enumerate() {
+                record.least[axis] = record.least[axis].min(n);
+                record.greatest[axis] = record.greatest[axis].max(n);
             }
             for by in touching {
                 let next = at.wrapping_add(by);

@@ -5,12 +5,14 @@ mod components;
 mod field;
 mod mapfile;
 mod marks;
+mod places;
 mod routes;
 
 pub use components::{components, Component};
 pub use field::{fresh, hear, outstanding, sound};
 pub use mapfile::{read_map, write_map};
 pub use marks::marks;
+pub use places::{number, place, step};
 pub use routes::{reached, route, verdict, Verdict};
 
 /// A refusal's number, and the first bad cell where it is 4.
