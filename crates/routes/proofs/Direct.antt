@@ -3,19 +3,18 @@
 -- told by its number, so the places of a path can be read from the list. Assumes nothing.
 use mathlib.Core.Path.{_≡_, refl, sym, ap, _∙_, subst}
 use mathlib.Core.Logic.{_↔_, inl, inr}
-use mathlib.Core.Bool.{Bool, true, false}
 use mathlib.Core.List.{List, [], _∷_}
 use Prim.Native.Nat.{ℕ, zero, suc, _<_}
 use native.Mathlib.Omega.{arith}
 use lib.ListN.{length, getD}
-use lib.Dec.{T, ltb→lt}
+use lib.Dec.{T}
 use lib.Seq.{ext-getD}
-use Rattle.mesh.specs.Mesh.{Axis, X, Y, Z, span, on, Inside, nodes, number, placeOf}
-use Rattle.mesh.specs.Steps.{next, along}
+use Rattle.mesh.specs.Mesh.{Inside, nodes, number, placeOf}
+use Rattle.mesh.specs.Steps.{next}
 use Rattle.mesh.specs.Cells.{Map, mapOf, cellAt, mayPass, mayEnd, linked}
 use Rattle.mesh.proofs.Tests.{T-cond, tried}
 use Rattle.mesh.proofs.Numbers.{number-of, number-lt, place-in, place-of, number-eq}
-use Rattle.mesh.proofs.Steps.{dir-of, dir-led, led, next-in, room, go, put}
+use Rattle.mesh.proofs.Steps.{next-in, next-only}
 use Rattle.mesh.specs.declared.Sizes.{Sizes}
 use Rattle.mesh.specs.declared.Place.{Place}
 use Rattle.mesh.specs.declared.Next.the-variants.{At}
@@ -26,51 +25,7 @@ use Rattle.routes.specs.Promise.{Begins, DirectWalk, TakesLowest}
 use Rattle.routes.proofs.Paths.{mayHop-iff}
 use Rattle.routes.proofs.Walks.{path-walk}
 use Rattle.routes.proofs.Differences.{at-eq}
-use Rattle.routes.proofs.Runs.{on-put}
 use Rattle.routes.proofs.Offered.{offers-iff, least-one}
-
--- ---- two directions do not lead to one neighbour
-
-moves : (down : Bool) (c n : ℕ) → T (room down c n) → go down c ≡ c → ⊥
-moves true c n t e = let h = ltb→lt 0 c t in omega arith
-moves false c n t e = omega arith
-
-same-way : (a b : Bool) (c n : ℕ) → T (room a c n) → T (room b c n) → go a c ≡ go b c → a ≡ b
-same-way true true c n t u e = refl
-same-way false false c n t u e = refl
-same-way true false c n t u e = absurd (omega arith)
-same-way false true c n t u e = absurd (omega arith)
-
--- two moves of one place that agree are on one axis, if the first moves at all; and they agree on it
-same-axis : (a b : Axis) (p : Place) (c d : ℕ) → (c ≡ on p a → ⊥) → put a p c ≡ put b p d → a ≡ b
-same-axis X X p c d n e = refl
-same-axis X Y p c d n e = absurd (n (ap (λ (q : Place). q .x) e))
-same-axis X Z p c d n e = absurd (n (ap (λ (q : Place). q .x) e))
-same-axis Y X p c d n e = absurd (n (ap (λ (q : Place). q .y) e))
-same-axis Y Y p c d n e = refl
-same-axis Y Z p c d n e = absurd (n (ap (λ (q : Place). q .y) e))
-same-axis Z X p c d n e = absurd (n (ap (λ (q : Place). q .z) e))
-same-axis Z Y p c d n e = absurd (n (ap (λ (q : Place). q .z) e))
-same-axis Z Z p c d n e = refl
-
-same-along : (S : Sizes) (p r : Place) → Inside S p → (a b : Axis) (c d : Bool) → a ≡ b → next S p (along a c) ≡ At r → next S p (along b d) ≡ At r
-    → along a c ≡ along b d
-same-along S p r i a b c d f h k =
-    let (t, q) = led S p i a c r h in
-    let (u, w) = led S p i a d r (rw (← f) at k) in
-    let e : go c (on p a) ≡ go d (on p a) = sym (on-put a p (go c (on p a))) ∙ ap (λ (q : Place). on q a) (sym q ∙ w) ∙ on-put a p (go d (on p a)) in
-    rw (f, same-way c d (on p a) (span S a) t u e)
-
-next-only : (S : Sizes) (p r : Place) → Inside S p → (j k : ℕ) → next S p j ≡ At r → next S p k ≡ At r → j ≡ k
-next-only S p r i j k h g =
-    let (a, c, f) = dir-of j (dir-led S p r j h) in
-    let (b, d, f′) = dir-of k (dir-led S p r k g) in
-    let h′ : next S p (along a c) ≡ At r = rw (← f) h in
-    let g′ : next S p (along b d) ≡ At r = rw (← f′) g in
-    let (t, q) = led S p i a c r h′ in
-    let (u, w) = led S p i b d r g′ in
-    let z = same-axis a b p (go c (on p a)) (go d (on p b)) (moves c (on p a) (span S a) t) (sym q ∙ w) in
-    f ∙ same-along S p r i a b c d z h′ g′ ∙ sym f′
 
 -- ---- a list that leads from a place begins with its number
 
