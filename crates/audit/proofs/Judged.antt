@@ -2,7 +2,7 @@
 -- Assumes nothing.
 use mathlib.Core.Path.{_≡_, refl, sym, ap, _∙_, subst}
 use mathlib.Core.Bool.{Bool, true, false, cond}
-use mathlib.Core.List.{List, _++_}
+use mathlib.Core.List.{List, [], _∷_, _++_}
 use Prim.Native.Nat.{ℕ, _+_, _≤_, _<_}
 use native.Mathlib.Omega.{arith}
 use borrow.Author.Tests.{le-leb}
@@ -26,7 +26,9 @@ use Rattle.routes.specs.declared.Verdict.the-variants.{Granted, NotGranted}
 use Rattle.routes.proofs.Differences.{hops-le}
 use Rattle.routes.proofs.Ends.{ends-granted}
 use Rattle.routes.proofs.Offered.{route-length}
-use Rattle.audit.specs.Audit.{noPath}
+use Rattle.text.specs.Text.{ascii, told}
+use Rattle.text.proofs.Pieces.{pieces-same}
+use Rattle.audit.specs.Audit.{noPath, grantedText}
 
 -- ---- no check but the last refuses for want of a path
 
@@ -123,3 +125,11 @@ module _ (S : Sizes) (cells : List ℕ) where
           = route-length m (placeOf S e) (placeOf S s) (ends-granted S cells s e (both .0) .start-in) (holds-true _ .1 (both .1)) in
           ap (λ (l : List ℕ). getD l i 0) (route-front old room)
           ∙ List·getD-append (route m (placeOf S e) (placeOf S s)) (drop (hops (placeOf S s) (placeOf S e) + 1) old) 0 i (omega arith)
+
+-- the text for a transfer that is granted, from the same nodes
+pub granted-same : (h : ℕ) (l k : List ℕ) → ((i : ℕ) → i < h + 1 → getD l i 0 ≡ getD k i 0) → grantedText h l ≡ grantedText h k
+unfolding grantedText
+granted-same h l k same =
+    ap (λ (t : List ℕ). told (ascii ": granted, hops %, route") (h ∷ []) ++ t ++ ascii "\n")
+    (pieces-same (λ i. told (ascii " %") (getD l i 0 ∷ [])) (λ i. told (ascii " %") (getD k i 0 ∷ [])) (h + 1)
+    (λ i b. ap (λ (n : ℕ). told (ascii " %") (n ∷ [])) (same i b)))

@@ -6,7 +6,7 @@ use lib.ListN.{length}
 use Rattle.mesh.specs.Answers.{refusalNo}
 use Rattle.mesh.specs.declared.Refusal.{Refusal}
 use Rattle.mesh.specs.declared.Refusal.the-variants.{BadSizes, BadLength, NoRoom, BadCell, BadNumber, Unsound, NoPair, NotHeld, FaultyEnd, NoPath, BadFile}
-use Rattle.audit.specs.Log.{linesOf}
+use Rattle.logfile.specs.Log.{linesOf}
 use Rattle.audit.specs.Words.{reasons}
 
 twelve : length (linesOf reasons) ≡ 12

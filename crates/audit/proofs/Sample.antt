@@ -1,6 +1,6 @@
 -- The definitions on samples, by computation. Assumes nothing.
 use mathlib.Core.Path.{_≡_, refl}
-use mathlib.Core.List.{[], _∷_, _++_}
+use mathlib.Core.List.{_∷_, _++_}
 use lib.ListN.{replicate}
 use Rattle.mesh.specs.Tools.{any, sum, table}
 use Rattle.mesh.specs.Mesh.{sizes, inRange}
@@ -11,28 +11,11 @@ use Rattle.routes.specs.Differences.{preferred, hops}
 use Rattle.routes.specs.Paths.{mayEnter, mayHop, leadsWithin, leads}
 use Rattle.routes.specs.Offered.{offers, offered, reached}
 use Rattle.routes.specs.Entries.{checkEnds, verdictCheck, verdictAnswer}
-use Rattle.text.specs.Text.{ascii, decimalWithin, told}
-use Rattle.audit.specs.Log.{blank, digit, linesOf, readFrom, numberOf, entryOf}
-use Rattle.audit.specs.Words.{pieces, toldWide, reasons, refusalLine}
-use Rattle.audit.specs.Picture.{symbolOf, symbols, rowText, layerHead, layerText, wayText, endsText, picture}
+use Rattle.text.specs.Text.{ascii, decimalWithin, told, pieces}
+use Rattle.logfile.specs.Log.{linesOf}
+use Rattle.audit.specs.Words.{reasons, refusalLine}
+use Rattle.picture.specs.Picture.{toldWide, symbolOf, symbols, rowText, layerHead, layerText, wayText, endsText, picture}
 use Rattle.audit.specs.Audit.{refusedText, transferText}
-use Rattle.audit.specs.declared.Entry.the-variants.{Nothing, Transfer, NoPair}
-
--- what is a pair of numbers, what says nothing, and what is neither
-pub entries : (entryOf (ascii "0 24") ∷ entryOf (ascii "\t6\t24 # case 4\r") ∷ entryOf (ascii "007 4294967295") ∷ [])
-    ≡ (Transfer 0 24 ∷ Transfer 6 24 ∷ Transfer 7 4294967295 ∷ [])
-unfolding firstBad blank digit readFrom numberOf entryOf
-entries = refl
-
-pub skipped : (entryOf [] ∷ entryOf (ascii " \t\r") ∷ entryOf (ascii "# 0 24") ∷ entryOf (ascii "  # case 4") ∷ [])
-    ≡ (Nothing ∷ Nothing ∷ Nothing ∷ Nothing ∷ [])
-unfolding firstBad blank digit readFrom numberOf entryOf
-skipped = refl
-
-pub no-pairs : (entryOf (ascii "24") ∷ entryOf (ascii "0 24 6") ∷ entryOf (ascii "0-24") ∷ entryOf (ascii "0 x4") ∷ entryOf (ascii "0 4294967296") ∷ [])
-    ≡ (NoPair ∷ NoPair ∷ NoPair ∷ NoPair ∷ NoPair ∷ [])
-unfolding firstBad blank digit readFrom numberOf entryOf
-no-pairs = refl
 
 -- "Map P is 5 × 5 × 1 with (2,1) and (1,2) faulty"; 01's case 4, 6 to 24, as it is printed
 pub case-4 : transferText (sizes 5 5 1) (replicate 7 0 ++ 1 ∷ 0 ∷ 0 ∷ 0 ∷ 1 ∷ replicate 13 0) 5 6 24

@@ -13,12 +13,12 @@ use Rattle.routes.specs.Offered.{route}
 use Rattle.routes.specs.Entries.{verdictAnswer}
 use Rattle.routes.specs.declared.Verdict.{Verdict}
 use Rattle.routes.specs.declared.Verdict.the-variants.{Granted, NotGranted}
-use Rattle.text.specs.Text.{ascii, told}
-use Rattle.audit.specs.Log.{linesOf, entryOf}
-use Rattle.audit.specs.Words.{pieces, refusalLine}
-use Rattle.audit.specs.Picture.{picture}
-use Rattle.audit.specs.declared.Entry.{Entry}
-use Rattle.audit.specs.declared.Entry.the-variants.{Nothing, Transfer, NoPair}
+use Rattle.text.specs.Text.{ascii, told, pieces}
+use Rattle.logfile.specs.Log.{linesOf, entryOf}
+use Rattle.audit.specs.Words.{refusalLine}
+use Rattle.picture.specs.Picture.{picture}
+use Rattle.logfile.specs.declared.Entry.{Entry}
+use Rattle.logfile.specs.declared.Entry.the-variants.{Nothing, Transfer, NoPair}
 use Rattle.audit.specs.declared.Totals.{Totals}
 
 -- "granted with hops and the route"

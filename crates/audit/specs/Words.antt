@@ -1,22 +1,11 @@
--- The words of an audit: pieces of text one after another, coordinates in columns, and refusals in words. Assumes nothing.
-use mathlib.Core.Bool.{cond}
-use mathlib.Core.List.{List, [], _∷_, _++_}
-use Prim.Native.Nat.{ℕ, zero, suc}
-use lib.Dec.{ltb}
+-- The refusals in words. Assumes nothing.
+use mathlib.Core.List.{List, [], _++_}
+use Prim.Native.Nat.{ℕ}
 use lib.ListN.{getD}
 use Rattle.mesh.specs.Answers.{refusalNo}
 use Rattle.mesh.specs.declared.Refusal.{Refusal}
-use Rattle.text.specs.Text.{ascii, told}
-use Rattle.audit.specs.Log.{linesOf}
-
--- f 0, f 1, .. f (n - 1), one after another
-unfoldable pub pieces : (ℕ → List ℕ) → ℕ → List ℕ
-pieces f zero = []
-pieces f (suc n) = pieces f n ++ f n
-
--- a coordinate, told by one form where it has one digit and by another where it has two
-unfoldable pub toldWide : List ℕ → List ℕ → ℕ → List ℕ
-toldWide one two n = told (cond (ltb n 10) one two) (n ∷ [])
+use Rattle.text.specs.Text.{ascii}
+use Rattle.logfile.specs.Log.{linesOf}
 
 -- 01's refusals in words, each on the line of its number, the first line being line 0
 unfoldable pub reasons : List ℕ

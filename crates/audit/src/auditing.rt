@@ -1,11 +1,11 @@
 // The audit of a log, line by line.
 use crate::Audited;
-use crate::Entry;
 use crate::Totals;
 use crate::lines::transfer;
-use crate::log::entry;
-use crate::log::line_from;
 use crate::running::print;
+use logfile::Entry;
+use logfile::reading::entry;
+use logfile::reading::line_from;
 use mesh::Sizes;
 use routes::entries::verdict;
 use text::tell;

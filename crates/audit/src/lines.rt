@@ -1,8 +1,8 @@
 // The text for one transfer.
-use crate::picture::picture;
 use crate::words::say_refusal;
 use mesh::Refusal;
 use mesh::Sizes;
+use picture::drawing::picture;
 use routes::Verdict;
 use routes::entries::route;
 use text::say;
@@ -18,8 +18,7 @@ ghost use Rattle.routes.specs.Differences.{hops};
 ghost use Rattle.routes.specs.Offered.{route};
 ghost use Rattle.routes.specs.Entries.{verdictCheck, verdictAnswer};
 ghost use Rattle.routes.specs.declared.Verdict.the-variants.{NotGranted};
-ghost use Rattle.text.specs.Text.{ascii, told, Said};
-ghost use Rattle.audit.specs.Words.{pieces};
+ghost use Rattle.text.specs.Text.{ascii, told, pieces, Said};
 ghost use Rattle.audit.specs.Audit.{grantedText, refusedText, transferText};
 
 // The first n nodes of a route.

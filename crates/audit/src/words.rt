@@ -1,24 +1,11 @@
 // The words of an audit.
-use crate::log::line_of;
+use logfile::reading::line_of;
 use mesh::Refusal;
 use text::say;
-use text::tell;
 ghost use Prim.Native.Nat.{_+_, _≤_};
 ghost use lib.ListN.{length};
 ghost use Rattle.text.specs.Text.{Said};
-ghost use Rattle.audit.specs.Words.{toldWide, refusalLine};
-
-// A coordinate, told by one form where it has one digit and by another where it has two.
-pub fn tell_wide(one: &[u8], two: &[u8], n: usize, out: &mut [u8], at: usize) -> usize
-    requires { ⌜ (length (now two) ≤ length (now one)) × (at + (length (now one) + 20) ≤ length (now out)) ⌝ }
-    ensures { λ r. ⌜ Said (now (out .entry)) at (toldWide (now (one .entry)) (now (two .entry)) n) (now (out .exit)) r
-        × (r ≤ at + (length (now (one .entry)) + 20)) ⌝ }
-{
-    if n < 10 {
-        return tell(one, &[n], out, at);
-    }
-    tell(two, &[n], out, at)
-}
+ghost use Rattle.audit.specs.Words.{refusalLine};
 
 // A line that ends with a refusal in words.
 pub fn say_refusal(word: &[u8], r: Refusal, out: &mut [u8], at: usize) -> usize

@@ -1,3 +1,4 @@
 pub mod Decimal
 pub mod Saying
 pub mod Telling
+pub mod Pieces

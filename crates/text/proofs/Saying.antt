@@ -37,3 +37,13 @@ said-none old at =
 -- the same words, otherwise written
 pub said-as : {old : List ℕ} {at : ℕ} {word other new : List ℕ} {next : ℕ} → word ≡ other → Said old at word new next → Said old at other new next
 said-as {old} {at} {new = new} {next = next} e s = subst (λ (t : List ℕ). Said old at t new next) e s
+
+-- two texts one after the other, each with its room
+pub said-exact : {old : List ℕ} {at : ℕ} {word new : List ℕ} {next : ℕ} → Said old at word new next
+    → Said old at word new next × (next ≤ at + length word)
+said-exact s = (s, omega (arith, s .place))
+
+pub said-then : (w v : ℕ) {old : List ℕ} {at : ℕ} {word new : List ℕ} {next : ℕ} {more last : List ℕ} {end : ℕ} → at + w ≤ length old
+    → Said old at word new next × (next ≤ at + w) → Said new next more last end × (end ≤ next + v)
+    → Said old at (word ++ more) last end × (end ≤ at + (w + v))
+said-then w v fits (s, h) (t, k) = (said-next (omega (arith, s .place)) s t, omega arith)

@@ -1,4 +1,4 @@
--- Text as bytes: words, and numbers in decimal. Assumes nothing.
+-- Text as bytes: words, numbers in decimal, forms with numbers, and pieces one after another. Assumes nothing.
 use mathlib.Core.Bool.{true, false, cond}
 use mathlib.Core.List.{List, [], _∷_, _++_}
 use mathlib.Core.Path.{_≡_}
@@ -27,6 +27,11 @@ unfoldable pub told : List ℕ → List ℕ → List ℕ
 told [] numbers = []
 told (b ∷ form) [] = b ∷ told form []
 told (b ∷ form) (n ∷ numbers) = elim (eqb b 37) [ true ↦ decimal n ++ told form numbers | false ↦ b ∷ told form (n ∷ numbers) ]
+
+-- f 0, f 1, .. f (n - 1), one after another
+unfoldable pub pieces : (ℕ → List ℕ) → ℕ → List ℕ
+pieces f zero = []
+pieces f (suc n) = pieces f n ++ f n
 
 -- `text` has been stored from `at` on, and `next` is the place after it
 pub record Said (old : List ℕ) (at : ℕ) (text new : List ℕ) (next : ℕ) : Type 0 where

@@ -6,10 +6,10 @@ use native.Mathlib.Omega.{arith}
 use denote.Ref.{now}
 use Rattle.mesh.specs.declared.Sizes.{Sizes}
 use Rattle.text.proofs.Saying.{said-none, said-as}
-use Rattle.audit.specs.Log.{entryOf}
+use Rattle.logfile.specs.Log.{entryOf}
 use Rattle.audit.specs.Audit.{entryText, judge, tally, lineText, lineTotals}
-use Rattle.audit.specs.declared.Entry.{Entry}
-use Rattle.audit.specs.declared.Entry.the-variants.{Nothing, NoPair}
+use Rattle.logfile.specs.declared.Entry.{Entry}
+use Rattle.logfile.specs.declared.Entry.the-variants.{Nothing, NoPair}
 use Rattle.audit.specs.declared.Totals.{Totals}
 use borrow.Author.Needs.{needs}
 use Rattle.audit.proofs.auditing.audit_line.Statement.{statement}

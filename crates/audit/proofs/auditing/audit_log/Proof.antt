@@ -5,11 +5,11 @@ use native.Mathlib.Omega.{arith}
 use borrow.Author.Needs.{needs}
 use denote.Ref.{now}
 use lib.ListN.{length, drop}
-use lib.Seq.{length-take-le}
-use Rattle.audit.specs.Log.{linesOf}
+use Rattle.logfile.specs.Log.{linesOf}
 use Rattle.audit.specs.Audit.{totalsFrom, totalsOf, Few}
 use Rattle.audit.specs.declared.Totals.{Totals}
-use Rattle.audit.proofs.Passing.{more, line-within, totals-next, totals-end, few-line}
+use Rattle.logfile.proofs.Lines.{line-within}
+use Rattle.audit.proofs.Passing.{more, totals-next, totals-end, few-line}
 use Rattle.audit.proofs.auditing.audit_log.Statement.{statement}
 use Rattle.audit.proofs.auditing.audit_log.Tie as tie
 

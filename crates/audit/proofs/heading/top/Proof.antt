@@ -3,9 +3,8 @@ use mathlib.Core.Path.{sym}
 use mathlib.Core.List.{append-nil}
 use native.Mathlib.Omega.{arith}
 use borrow.Author.Needs.{needs}
-use Rattle.text.proofs.Saying.{said-as}
+use Rattle.text.proofs.Saying.{said-as, said-exact, said-then}
 use Rattle.audit.specs.Heading.{topText}
-use Rattle.audit.proofs.Pieces.{said-exact, said-then}
 use Rattle.audit.proofs.heading.top.Statement.{statement}
 use Rattle.audit.proofs.heading.top.Tie as tie
 

@@ -10,8 +10,7 @@ use Rattle.mesh.specs.Mesh.{placeOf}
 use Rattle.mesh.specs.Cells.{mapOf}
 use Rattle.routes.specs.Offered.{route}
 use Rattle.text.proofs.Saying.{said-as}
-use Rattle.audit.proofs.Judged.{short, route-at}
-use Rattle.audit.proofs.Pieces.{granted-same}
+use Rattle.audit.proofs.Judged.{short, route-at, granted-same}
 use Rattle.audit.proofs.lines.granted.Statement.{statement}
 use Rattle.audit.proofs.lines.granted.Tie as tie
 

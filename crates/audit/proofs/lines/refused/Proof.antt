@@ -8,10 +8,9 @@ use borrow.Author.Needs.{needs}
 use borrow.Author.Tests.{eq-eqb, ne-eqb}
 use denote.Ref.{now}
 use lib.Dec.{eqb}
-use Rattle.text.proofs.Saying.{said-as}
+use Rattle.text.proofs.Saying.{said-as, said-then}
 use Rattle.audit.specs.Audit.{noPath, refusedText}
 use Rattle.audit.proofs.Judged.{no-path-ends}
-use Rattle.audit.proofs.Pieces.{said-then}
 use Rattle.audit.proofs.lines.refused.Statement.{statement}
 use Rattle.audit.proofs.lines.refused.Tie as tie
 

@@ -2,7 +2,7 @@
 use native.Mathlib.Omega.{arith}
 use borrow.Author.Needs.{needs}
 use Rattle.audit.specs.Audit.{grantedText}
-use Rattle.audit.proofs.Pieces.{said-exact, said-then}
+use Rattle.text.proofs.Saying.{said-exact, said-then}
 use Rattle.audit.proofs.lines.say_granted.Statement.{statement}
 use Rattle.audit.proofs.lines.say_granted.Tie as tie
 

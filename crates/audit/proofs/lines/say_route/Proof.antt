@@ -4,7 +4,7 @@ use Prim.Native.Nat.{_-_}
 use native.Mathlib.Omega.{arith}
 use lib.ListN.{getD}
 use Rattle.text.specs.Text.{ascii, told}
-use Rattle.audit.proofs.Pieces.{Saying, saying-none, saying-more, saying-all}
+use Rattle.text.proofs.Pieces.{Saying, saying-none, saying-more, saying-all}
 use Rattle.audit.proofs.lines.say_route.Statement.{statement}
 use Rattle.audit.proofs.lines.say_route.Tie as tie
 

@@ -9,10 +9,9 @@ use Rattle.mesh.specs.declared.Sizes.{Sizes}
 use Rattle.routes.specs.Entries.{verdictAnswer}
 use Rattle.routes.specs.declared.Verdict.{Verdict}
 use Rattle.text.specs.Text.{ascii, told}
-use Rattle.text.proofs.Saying.{said-as}
+use Rattle.text.proofs.Saying.{said-as, said-then}
 use Rattle.audit.specs.Audit.{verdictText, transferText}
 use Rattle.audit.proofs.Judged.{granted-says}
-use Rattle.audit.proofs.Pieces.{said-then}
 use Rattle.audit.proofs.lines.transfer.Statement.{statement}
 use Rattle.audit.proofs.lines.transfer.Tie as tie
 

@@ -1,15 +1,14 @@
 -- `audit::words::say_refusal` meets its contract: the line of the refusal's number is its reason. Assumes nothing.
 use mathlib.Core.Path.{_≡_, ap, _∙_}
-use mathlib.Core.List.{List, []}
+use mathlib.Core.List.{[]}
 use Prim.Native.Nat.{ℕ, _+_}
 use native.Mathlib.Omega.{arith}
 use borrow.Author.Needs.{needs}
 use denote.Ref.{now}
 use lib.ListN.{length, getD}
-use Rattle.text.proofs.Saying.{said-as}
-use Rattle.audit.specs.Log.{linesOf}
+use Rattle.text.proofs.Saying.{said-as, said-exact, said-then}
+use Rattle.logfile.specs.Log.{linesOf}
 use Rattle.audit.specs.Words.{reasons, reason, refusalLine}
-use Rattle.audit.proofs.Pieces.{said-exact, said-then}
 use Rattle.audit.proofs.Reasons.{has-reason}
 use Rattle.audit.proofs.words.say_refusal.Statement.{statement}
 use Rattle.audit.proofs.words.say_refusal.Tie as tie

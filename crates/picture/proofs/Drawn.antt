@@ -1,0 +1,72 @@
+-- A box that is drawn is no larger than the largest mesh, and the symbols over what is reached are those of the definition. Assumes nothing.
+use mathlib.Core.Path.{_≡_, sym, ap, _∙_}
+use mathlib.Core.List.{List, _++_}
+use Prim.Native.Nat.{ℕ, _+_, _≤_, _<_}
+use native.Mathlib.Omega.{arith}
+use borrow.Author.Tests.{le-leb}
+use lib.ListN.{length, getD, take, drop, List·getD-append}
+use lib.Seq.{length-take-le, getD-take, ext-getD}
+use Rattle.mesh.specs.Tools.{table}
+use Rattle.mesh.specs.Mesh.{Inside, nodes, placeOf}
+use Rattle.mesh.specs.Cells.{Map, mapOf}
+use Rattle.mesh.specs.Fill.{Filled}
+use Rattle.mesh.specs.declared.Sizes.{Sizes}
+use Rattle.mesh.specs.declared.Place.{Place}
+use Rattle.mesh.specs.declared.Answer.the-variants.{Done}
+use Rattle.mesh.proofs.Numbers.{nodes-le}
+use Rattle.mesh.proofs.Tables.{length-table, getD-table}
+use Rattle.routes.specs.Box.{largest, between, far}
+use Rattle.routes.specs.Offered.{reached}
+use Rattle.routes.specs.Entries.{checkEnds, reachedCheck, reachedWritten, reachedOut}
+use Rattle.routes.specs.declared.Between.{Between}
+use Rattle.routes.proofs.Box.{far-in}
+use Rattle.routes.proofs.Ends.{ends-granted}
+use Rattle.routes.proofs.Reached.{reached-length}
+use Rattle.text.specs.Text.{pieces}
+use Rattle.picture.specs.Picture.{symbolOf, symbolIn, symbols, Drawn, layerText, endsText, picture}
+
+pub narrow : {S : Sizes} {drawn : List ℕ} {g : Between} → Drawn S drawn g → Inside largest (far g)
+narrow {S} {g = g} d = far-in S g (d .sized) (d .held)
+
+pub symbols-length : (m : Map) (s e : ℕ) → length (symbols m s e) ≡ nodes (m .sizes)
+unfolding symbols
+symbols-length m s e = length-table (symbolIn m s e) (nodes (m .sizes))
+
+-- the parts of a picture
+pub picture-is : (m : Map) (s e : ℕ) (u v : Place) (g : Between) (drawn : List ℕ) → u ≡ placeOf (m .sizes) s → v ≡ placeOf (m .sizes) e
+    → g ≡ between u v → drawn ≡ symbols m s e → endsText u v g ++ pieces (layerText (m .sizes) drawn g) (g .z .steps + 1) ≡ picture m s e
+unfolding picture
+picture-is m s e u v g drawn is-u is-v is-g is = rw (is, is-g, is-u, is-v)
+
+module _ (S : Sizes) (cells : List ℕ) (s e : ℕ) (checked : checkEnds S cells s e ≡ Done) where
+  pub few : nodes S ≤ 4096
+  few = nodes-le S (ends-granted S cells s e checked .sized)
+
+  module _ (old : List ℕ) (room : length old ≡ 4096) where
+    reached-front : reachedOut S cells s e old ≡ reached (mapOf S cells) (placeOf S s) (placeOf S e) ++ drop (nodes S) old
+    unfolding reachedCheck reachedWritten
+    reached-front = rw (checked, le-leb (nodes S) (length old) (omega (arith, few)))
+
+    reached-at : (k : ℕ) → k < nodes S → getD (reachedOut S cells s e old) k 0 ≡ getD (reached (mapOf S cells) (placeOf S s) (placeOf S e)) k 0
+    reached-at k h =
+        let l = reached (mapOf S cells) (placeOf S s) (placeOf S e) in
+        ap (λ (x : List ℕ). getD x k 0) reached-front
+        ∙ List·getD-append l (drop (nodes S) old) 0 k (omega (arith, reached-length (mapOf S cells) (placeOf S s) (placeOf S e)))
+
+    -- one symbol for each node
+    pub drawn-front : (seen new : List ℕ) → seen ≡ reachedOut S cells s e old → length seen ≡ 4096
+        → Filled (λ i. i) (λ i. symbolOf s e i (getD seen i 0) (getD cells i 0)) seen new (length cells)
+        → take (nodes S) new ≡ symbols (mapOf S cells) s e
+    unfolding symbols
+    drawn-front seen new is size filled =
+        let whole : length cells ≡ nodes S = ends-granted S cells s e checked .whole in
+        let wide : nodes S ≤ length new = omega (arith, few, filled .size) in
+        let sized : length (take (nodes S) new) ≡ nodes S = length-take-le (nodes S) new wide in
+        ext-getD 0 (take (nodes S) new) (table (symbolIn (mapOf S cells) s e) (nodes S))
+        (sized ∙ sym (length-table (symbolIn (mapOf S cells) s e) (nodes S)))
+        (λ i h.
+        let l : i < nodes S = omega arith in
+        getD-take (nodes S) new i 0 l
+        ∙ filled .at i (omega arith)
+        ∙ ap (λ (x : ℕ). symbolOf s e i x (getD cells i 0)) (ap (λ (x : List ℕ). getD x i 0) is ∙ reached-at i l)
+        ∙ sym (getD-table (symbolIn (mapOf S cells) s e) (nodes S) i 0 l))
