@@ -1,4 +1,5 @@
 pub mod Impostors
 pub mod Small
 pub mod Groups
+pub mod Reading
 pub mod Tight

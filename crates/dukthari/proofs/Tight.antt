@@ -14,7 +14,11 @@ use Rattle.mesh.specs.Answers.{granted, answerNo, numbered}
 use Rattle.mesh.specs.declared.Answer.{Answer}
 use Rattle.mesh.specs.declared.Answer.the-variants.{Done, Refused}
 use Rattle.mesh.specs.declared.Sizes.{Sizes}
+use Rattle.mesh.specs.Marks.{marksOf}
 use Rattle.marks.specs.Entry.{marksAnswer, marksWritten, marksOut}
+use Rattle.components.specs.Components.{howMany}
+use Rattle.components.specs.Entry.{componentsCheck, componentsAnswer, componentsTable, componentsRow, tableWritten, rowWritten}
+use Rattle.components.specs.declared.Component.{Component}
 use Rattle.routes.specs.Offered.{reachedCount}
 use Rattle.routes.specs.Entries.{routeLength, routeCheck, routeAnswer, routeWritten, routeOut}
 use Rattle.routes.specs.Entries.{reachedCheck, reachedAnswer, reachedWritten, reachedOut}
@@ -33,6 +37,7 @@ use Rattle.dukthari.proofs.dk_step.Kinds as step-kinds
 use Rattle.dukthari.proofs.dk_step.Reads as step-reads
 use Rattle.dukthari.proofs.dk_marks.Kinds as marks-kinds
 use Rattle.dukthari.proofs.dk_marks.Reads as marks-reads
+use Rattle.dukthari.proofs.Reading as components-reads
 use Rattle.dukthari.proofs.dk_verdict.Kinds as verdict-kinds
 use Rattle.dukthari.proofs.dk_verdict.Reads as verdict-reads
 use Rattle.dukthari.proofs.dk_route.Kinds as route-kinds
@@ -70,7 +75,7 @@ done-kept : (a : Answer) (new old : List ℕ) → (answerNo a ≡ 0 → ⊥) →
 done-kept Done new old n = absurd (n refl)
 done-kept (Refused r) new old n = refl
 
-counted-kept : (a : Answer) (v : ℕ) (new old : List ℕ) → (countedFields (numbered a v) .refusal ≡ 0 → ⊥) → granted a new old ≡ old
+counted-kept : {A : Type 0} (a : Answer) (v : ℕ) (new old : List A) → (countedFields (numbered a v) .refusal ≡ 0 → ⊥) → granted a new old ≡ old
 counted-kept Done v new old n = absurd (n refl)
 counted-kept (Refused r) v new old n = refl
 
@@ -80,6 +85,15 @@ read-kept (Refused r) S new old n = refl
 
 marks-kept : (S : Sizes) (cells : List ℕ) (o : ℕ) (out : List ℕ) → (answerNo (marksAnswer S cells o (length out)) ≡ 0 → ⊥) → marksOut S cells o out ≡ out
 marks-kept S cells o out = done-kept (marksAnswer S cells o (length out)) (marksWritten S cells o out) out
+
+components-kept : (S : Sizes) (cells : List ℕ) (o : ℕ) (table : List ℕ) (row : List Component)
+    → (countedFields (componentsAnswer S cells o (length table) (length row)) .refusal ≡ 0 → ⊥)
+    → (componentsTable S cells o table row ≡ table) × (componentsRow S cells o table row ≡ row)
+unfolding componentsAnswer
+components-kept S cells o table row n =
+    let check = componentsCheck S cells o (length table) (length row) in
+    let count = howMany S (marksOf (mapOf S cells) o) in
+    (counted-kept check count (tableWritten S cells o table) table n, counted-kept check count (rowWritten S cells o row) row n)
 
 route-kept : (S : Sizes) (cells : List ℕ) (s e : ℕ) (out : List ℕ)
     → (countedFields (routeAnswer S cells s e (length out)) .refusal ≡ 0 → ⊥) → routeOut S cells s e out ≡ out
@@ -132,6 +146,17 @@ marks-tight = record {
   every = λ κs a. tt;
   one = λ κs a x y s t h k. (h .0 ∙ sym (k .0), h .1 ∙ sym (k .1));
   kept = λ κs a x s h n. h .1 ∙ marks-kept _ _ _ _ (λ e. n (ap (λ v. v .refusal) (h .0) ∙ e));
+}
+
+pub components-tight : Tight 3 components-reads.ps components-reads.r components-reads.Asked components-reads.Learnt (λ κs x. x .refusal)
+    {Lent = List ℕ × List Component}
+    (λ κs a. (now (a .1 .1 .1 .1 .1 .0), now (a .1 .1 .1 .1 .1 .1 .0))) (λ κs s. (now (s .1 .1 .1 .1 .1 .0), now (s .1 .1 .1 .1 .1 .1 .0)))
+components-tight = record {
+  every = λ κs a. tt;
+  one = λ κs a x y s t h k. (h .0 ∙ sym (k .0), λ i. ((h .1 ∙ sym (k .1)) i, (h .2 ∙ sym (k .2)) i));
+  kept = λ κs a x s h n.
+      let (e, f) = components-kept _ _ _ _ _ (λ e. n (ap (λ v. v .refusal) (h .0) ∙ e)) in
+      λ i. ((h .1 ∙ e) i, (h .2 ∙ f) i);
 }
 
 pub verdict-tight : Tight 1 verdict-kinds.ps verdict-kinds.r verdict-reads.Asked verdict-reads.Learnt (λ κs x. x .refusal) (λ κs a. tt {0}) (λ κs s. tt {0})
