@@ -9,6 +9,7 @@ use lib.Dec.{T, T-not, eqb, eqb→eq}
 use lib.ListN.{length, getD}
 use Rattle.mesh.specs.Tools.{bit, table, sum, count}
 use Rattle.mesh.proofs.Tests.{T-or, T-eq, holds-true, tried}
+use Rattle.mesh.proofs.Tables.{sum-first}
 use Rattle.components.specs.Lists.{anyOf, isIn, keepIf, keep}
 
 -- ---- what is in a list
@@ -192,11 +193,6 @@ keep-keep p q (j ∷ js) = split (q j) (keep-keep p q js)
         → keep p (keepIf b j (keep q js)) ≡ keepIf (b && p j) j (keep (λ k. q k && p k) js)
     split true ih = ap (keepIf (p j) j) ih
     split false ih = ih
-
-pub sum-first : (n : ℕ) (f : ℕ → ℕ) → sum (suc n) f ≡ f 0 + sum n (λ i. f (suc i))
-unfolding sum
-sum-first zero f = refl
-sum-first (suc n) f = omega (arith, sum-first n f)
 
 pub keep-count : (p : ℕ → Bool) (f : ℕ → ℕ) (n : ℕ) → length (keep p (table f n)) ≡ count n (λ i. p (f i))
 unfolding table keep sum

@@ -1,14 +1,13 @@
 -- Which refusal stands, and that what is computed is what the call's equations say. Assumes nothing.
-use mathlib.Core.Path.{_≡_, refl, sym, ap, _∙_, subst}
-use mathlib.Core.Logic.{inl, inr}
+use mathlib.Core.Path.{_≡_, refl, sym, ap, _∙_}
+use mathlib.Core.Logic.{inl}
 use mathlib.Core.Bool.{true}
 use mathlib.Core.List.{List, [], _++_}
 use Prim.Native.Nat.{ℕ, _+_, _-_, _≤_, _<_}
 use native.Mathlib.Omega.{arith}
 use borrow.Author.Tests.{le-leb}
-use lib.Dec.{T, ltb, leb, ltb→lt, nltb→le}
-use lib.ListN.{length, getD, take, drop, length-append, length-drop, List·getD-append}
-use lib.Seq.{ext-getD, getD-append-add, getD-drop}
+use lib.Dec.{T, leb}
+use lib.ListN.{length, getD, take, drop}
 use Rattle.mesh.specs.Tools.{table}
 use Rattle.mesh.specs.Mesh.{InRange, nodes, placeOf}
 use Rattle.mesh.specs.Cells.{mapOf}
@@ -20,8 +19,8 @@ use Rattle.mesh.specs.declared.Answer.{Answer}
 use Rattle.mesh.specs.declared.Answer.the-variants.{Done, Refused}
 use Rattle.mesh.specs.declared.Numbered.{Numbered}
 use Rattle.mesh.specs.declared.Numbered.the-variants.{Number, NotNumbered}
-use Rattle.mesh.proofs.Tests.{tried}
 use Rattle.mesh.proofs.Tables.{length-table, getD-table}
+use Rattle.mesh.proofs.Fill.{front}
 use Rattle.mesh.proofs.Numbers.{nodes-le}
 use Rattle.mesh.proofs.Answers.{split, room-granted, map-granted}
 use Rattle.mesh.proofs.Marks.{marks-length}
@@ -36,19 +35,6 @@ use Rattle.components.specs.declared.Component.{Component}
 use Rattle.components.specs.declared.Outcome.{Outcome}
 use Rattle.components.proofs.Spots.{untouched, within}
 use Rattle.components.proofs.Nodes.{numbers, as-defined}
-
--- what is written to the front of a list, the rest of which stays
-pub front : (t old new : List ℕ) (n : ℕ) → length t ≡ n → n ≤ length old → length new ≡ length old
-    → ((k : ℕ) → k < n → getD new k 0 ≡ getD t k 0) → ((k : ℕ) → n ≤ k → getD new k 0 ≡ getD old k 0) → new ≡ t ++ drop n old
-front t old new n lt fits long low high =
-    ext-getD 0 new (t ++ drop n old) (omega (arith, length-append t (drop n old), length-drop n old)) λ k h. elim (tried (ltb k n)) [
-      | inl u ↦ let l = ltb→lt k n u in low k l ∙ sym (List·getD-append t (drop n old) 0 k (omega arith))
-      | inr u ↦
-          let l = nltb→le k n u in
-          let e : n + (k - n) ≡ k = omega arith in
-          high k l ∙ sym (subst (λ (i : ℕ). getD (t ++ drop n old) i 0 ≡ getD old k 0) (omega arith)
-          (getD-append-add t (drop n old) (k - n) 0 ∙ getD-drop n old (k - n) 0 ∙ ap (λ (i : ℕ). getD old i 0) e))
-    ]
 
 module _ (S : Sizes) (cells : List ℕ) (o : ℕ) (old : List ℕ) (room : ℕ) where
   abbrev marks : List ℕ

@@ -8,6 +8,7 @@ use lib.Bits.{bitAnd, bitOr, bitXor, and-block, or-block, xor-block}
 use lib.Dec.{eqb}
 use Rattle.mesh.specs.Tools.{all, sum}
 use Rattle.mesh.proofs.Tests.{T-eq, T-all, bool-ext}
+use Rattle.mesh.proofs.Tables.{sum-first}
 use Rattle.field.specs.Scan.{Bytes, packed, six, ones, _isBut255_}
 
 -- ---- what is in each byte
@@ -60,11 +61,6 @@ packed-mul zero c f = omega arith
 packed-mul (suc n) c f = omega (arith, packed-mul n c λ j. f (suc j))
 
 -- ---- counts
-
-sum-first : (n : ℕ) (f : ℕ → ℕ) → sum (suc n) f ≡ f 0 + sum n λ j. f (suc j)
-unfolding sum
-sum-first zero f = refl
-sum-first (suc n) f = omega (arith, sum-first n f)
 
 -- 256 is 1 but for 255
 pub packed-sum : (n : ℕ) (f : ℕ → ℕ) → packed n f isBut255 sum n f

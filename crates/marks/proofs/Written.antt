@@ -1,19 +1,17 @@
 -- What two sweeps and their joining leave is what the call is to write: the marks, then the bytes that were there. Assumes nothing.
 use mathlib.Core.Path.{_≡_, refl, sym, ap, _∙_, subst}
 use mathlib.Core.Bool.{Bool, true, false, cond, _||_}
-use mathlib.Core.List.{List, _++_}
+use mathlib.Core.List.{List}
 use Prim.Native.Nat.{ℕ, _+_, _-_, _*_, _<_, _≤_}
 use native.Mathlib.Omega.{arith}
-use borrow.Author.Tests.{ltb-true, ltb-false}
-use lib.Dec.{ltb}
-use lib.ListN.{length, getD, drop, length-append, length-drop, List·getD-append}
-use lib.Seq.{ext-getD, getD-append-add, getD-drop}
+use lib.ListN.{length, getD, drop, List·getD-append}
 use Rattle.mesh.specs.Tools.{bit}
 use Rattle.mesh.specs.Mesh.{nodes, number, placeOf, Inside}
 use Rattle.mesh.specs.Steps.{reversed}
 use Rattle.mesh.specs.Cells.{Map, mapOf, faulty, faultyCell}
 use Rattle.mesh.specs.Marks.{toGo, shut, stuck, byteOf, markAt, marksOf}
 use Rattle.mesh.proofs.Bits.{bit-le}
+use Rattle.mesh.proofs.Fill.{front-kept, front-size, front}
 use Rattle.mesh.proofs.Numbers.{digit-lt, number-of, number-lt, place-in}
 use Rattle.mesh.proofs.Left.{to-go-in, to-go-back}
 use Rattle.mesh.proofs.Marks.{marks-length, marks-at}
@@ -34,19 +32,11 @@ module _ (S : Sizes) (cells : List ℕ) (o : ℕ) (old : List ℕ) where
 
   pub written-kept : (k : ℕ) → nodes S ≤ k → getD (marksWritten S cells o old) k 0 ≡ getD old k 0
   unfolding marksWritten
-  written-kept k l =
-      let e : nodes S + (k - nodes S) ≡ k = omega arith in
-      let q : length (marksOf (mapOf S cells) o) + (k - nodes S) ≡ k = rw (marks-length (mapOf S cells) o) e in
-      ap (λ (j : ℕ). getD (marksOf (mapOf S cells) o ++ drop (nodes S) old) j 0) (sym q)
-      ∙ getD-append-add (marksOf (mapOf S cells) o) (drop (nodes S) old) (k - nodes S) 0
-      ∙ getD-drop (nodes S) old (k - nodes S) 0
-      ∙ ap (λ (j : ℕ). getD old j 0) e
+  written-kept = front-kept (marksOf (mapOf S cells) o) old (nodes S) (marks-length (mapOf S cells) o)
 
   pub written-size : nodes S ≤ length old → length (marksWritten S cells o old) ≡ length old
   unfolding marksWritten
-  written-size l =
-      let e = length-append (marksOf (mapOf S cells) o) (drop (nodes S) old) in
-      omega (arith, length-drop (nodes S) old, marks-length (mapOf S cells) o)
+  written-size = front-size (marksOf (mapOf S cells) o) old (nodes S) (marks-length (mapOf S cells) o)
 
 -- ---- what is written
 
@@ -85,19 +75,8 @@ module _ (S : Sizes) (o : ℕ) (cells old mid none behind new : List ℕ) where
   pub written : Room S cells old → length new ≡ length old → Stretch m o (S .h * S .d) old mid
       → Stretch m (reversed o) (S .h * S .d) none behind → Joined cells behind mid new (nodes S)
       → new ≡ marksWritten S cells o old
-  written R long A B F = ext-getD 0 new (marksWritten S cells o old)
-      (long ∙ sym (written-size S cells o old (R .out-long)))
-      (λ k h. go k (ltb k (nodes S)) refl)
-    where
-      low : (k : ℕ) → k < nodes S → getD new k 0 ≡ getD (marksWritten S cells o old) k 0
-      low k l =
-          F .at k l
-          ∙ joined-at A B k l
-          ∙ sym (written-at S cells o old (placeOf S k) (place-in S k l))
-          ∙ ap (λ (j : ℕ). getD (marksWritten S cells o old) j 0) (number-of S k)
-
-      go : (k : ℕ) (t : Bool) → ltb k (nodes S) ≡ t → getD new k 0 ≡ getD (marksWritten S cells o old) k 0
-      go k true e = low k (ltb-true k (nodes S) e)
-      go k false e =
-          let l : nodes S ≤ k = ltb-false k (nodes S) e in
-          F .kept k (λ j h x. omega arith) ∙ A .kept k l ∙ sym (written-kept S cells o old k l)
+  unfolding marksWritten
+  written R long A B F =
+      front (marksOf m o) old new (nodes S) (marks-length m o) (R .out-long) long
+      (λ k l. F .at k l ∙ joined-at A B k l ∙ sym (marks-at m o (placeOf S k) (place-in S k l)) ∙ ap (λ (j : ℕ). getD (marksOf m o) j 0) (number-of S k))
+      (λ k l. F .kept k (λ j h x. omega arith) ∙ A .kept k l)

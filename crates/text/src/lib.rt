@@ -2,7 +2,6 @@
 pub mod running;
 
 use mapfile::storing::put;
-ghost use mathlib.Core.List.{_++_};
 ghost use Prim.Native.Nat.{_+_, _*_, _≤_};
 ghost use lib.ListN.{length};
 ghost use Rattle.text.specs.Text.{decimal, told, Said};
@@ -24,16 +23,6 @@ pub fn say_number(n: usize, out: &mut [u8], at: usize) -> usize
     let mut digits = [0u8; 20];
     let k = io::decimal(n as u64, &mut digits);
     say(&digits[..k], out, at)
-}
-
-// Stores a word and a number.
-pub fn say_both(word: &[u8], n: usize, out: &mut [u8], at: usize) -> usize
-    requires { ⌜ at + (length (now word) + 20) ≤ length (now out) ⌝ }
-    ensures { λ r. ⌜ Said (now (out .entry)) at (now (word .entry) ++ decimal n) (now (out .exit)) r
-        × (r ≤ at + (length (now (word .entry)) + 20)) ⌝ }
-{
-    let next = say(word, out, at);
-    say_number(n, out, next)
 }
 
 // Stores a form with its numbers.
