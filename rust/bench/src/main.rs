@@ -5,6 +5,7 @@
 mod cases;
 mod inputs;
 mod picture;
+mod places;
 mod timing;
 
 use inputs::Cube;
@@ -14,9 +15,9 @@ use timing::Row;
 type Timed = fn(Cube, &mut Vec<Row>);
 
 const ALL: [(&str, Timed); 14] = [
-    ("dk_number", cases::number),
-    ("dk_place", cases::place),
-    ("dk_step", cases::step),
+    ("dk_number", places::number),
+    ("dk_place", places::place),
+    ("dk_step", places::step),
     ("dk_marks", cases::marks),
     ("dk_components", cases::components),
     ("dk_verdict", cases::verdict),
