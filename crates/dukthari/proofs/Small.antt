@@ -33,10 +33,10 @@ use Rattle.routes.specs.Entries.{judged, checkEnd, checkEnds, verdictCheck, ver
 use Rattle.routes.proofs.Differences.{hops-le}
 use Rattle.mapfile.specs.Format.{trailerLength, fileLimit, distance, trailerAt, hasMark, sizesIn, distanceIn, cellsIn}
 use Rattle.mapfile.specs.Entry.{mapRead, checkFrame, checkTrailer, readCheck, readAnswer, writeCheck, writeAnswer}
-use Rattle.field.specs.State.{mapIn, pair, says}
-use Rattle.field.specs.Sound.{sound, within}
-use Rattle.field.specs.Hear.{news, outstandingOn, outstanding}
-use Rattle.field.specs.Entries.{checkState, freshAnswer, soundAnswer, outstandingAnswer, checkWord, hearAnswer}
+use Rattle.talk.specs.State.{mapIn, pair, says}
+use Rattle.talk.specs.Sound.{sound, within}
+use Rattle.talk.specs.Hear.{news, outstandingOn, outstanding}
+use Rattle.talk.specs.Entries.{checkState, freshAnswer, soundAnswer, outstandingAnswer, checkWord, hearAnswer}
 use Rattle.dukthari.specs.Answers.{PlaceFits, NumberedFits, VerdictFits, MapFits}
 
 -- a check passes on the bad cell of the first refusal

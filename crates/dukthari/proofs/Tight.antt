@@ -22,9 +22,9 @@ use Rattle.components.specs.declared.Component.{Component}
 use Rattle.routes.specs.Offered.{reachedCount}
 use Rattle.routes.specs.Entries.{routeLength, routeCheck, routeAnswer, routeWritten, routeOut}
 use Rattle.routes.specs.Entries.{reachedCheck, reachedAnswer, reachedWritten, reachedOut}
-use Rattle.field.specs.Sound.{fresh}
-use Rattle.field.specs.Hear.{changed}
-use Rattle.field.specs.Entries.{freshAnswer, freshOut, hearAnswer, hearOut}
+use Rattle.talk.specs.Sound.{fresh}
+use Rattle.talk.specs.Hear.{changed}
+use Rattle.talk.specs.Entries.{freshAnswer, freshOut, hearAnswer, hearOut}
 use Rattle.mapfile.specs.Format.{sizesIn, distance}
 use Rattle.mapfile.specs.Entry.{mapRead, readCheck, readAnswer, readWritten, readOut}
 use Rattle.mapfile.specs.Entry.{writeCheck, writeAnswer, writeWritten, writeOut}

@@ -7,7 +7,7 @@ use crate::fields::sizes_of;
 ghost use mathlib.Core.Path.{_≡_};
 ghost use lib.ListN.{length};
 ghost use Rattle.mesh.specs.Mesh.{sizes};
-ghost use Rattle.field.specs.Entries.{freshAnswer, freshOut, soundAnswer, outstandingAnswer, hearAnswer, hearOut};
+ghost use Rattle.talk.specs.Entries.{freshAnswer, freshOut, soundAnswer, outstandingAnswer, hearAnswer, hearOut};
 ghost use Rattle.dukthari.specs.Answers.{doneFields, countedFields};
 
 // A fresh state of a map. Refusals: 1, 2, 4, 5.

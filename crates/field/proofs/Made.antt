@@ -20,12 +20,13 @@ use Rattle.mesh.proofs.Tables.{length-table, getD-table}
 use Rattle.mesh.proofs.Numbers.{number-of, place-of}
 use Rattle.mesh.proofs.Steps.{dir-of, put, next-along}
 use Rattle.mesh.proofs.Strides.{stride, up-is, down-is}
-use Rattle.field.specs.State.{own, heard, faultyNode, worksNode}
-use Rattle.field.specs.Sound.{faultyHears, freshHeard, freshOwn, freshByte, fresh}
-use Rattle.field.specs.Scan.{isHeard, quickRule, freshUp, freshDown, Stored, Fresh}
-use Rattle.field.proofs.Rule.{ruled-same}
-use Rattle.field.proofs.Scanned.{quick-is}
-use Rattle.field.proofs.Fresh.{fresh-heard, fresh-sound}
+use Rattle.talk.specs.State.{own, heard, faultyNode, worksNode}
+use Rattle.talk.specs.Sound.{faultyHears, freshHeard, freshOwn, freshByte, fresh}
+use Rattle.states.specs.Scan.{isHeard, quickRule}
+use Rattle.field.specs.Making.{freshUp, freshDown, Stored, Fresh}
+use Rattle.talk.proofs.Rule.{ruled-same}
+use Rattle.talk.proofs.Fresh.{fresh-heard, fresh-sound}
+use Rattle.states.proofs.Scanned.{quick-is}
 use Rattle.field.proofs.Taken.{heard-byte}
 
 -- ---- two stores

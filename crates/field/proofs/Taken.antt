@@ -24,17 +24,17 @@ use Rattle.mesh.specs.declared.Answer.the-variants.{Done}
 use Rattle.mesh.proofs.Tests.{tried, holds-true}
 use Rattle.mesh.proofs.Answers.{sizes-of, split, orientation-granted}
 use Rattle.mesh.proofs.Bytes.{word-cases}
-use Rattle.field.specs.State.{heard, mapIn, worksNode, pair, says}
-use Rattle.field.specs.Sound.{within, sound, SoundOn, Sound}
-use Rattle.field.specs.Hear.{addMarks, added, ruledAt, changed}
-use Rattle.field.specs.Scan.{Ready, isOwn, isHeard, fits, quickRule}
-use Rattle.field.specs.Entries.{checkState, checkWord, hearAnswer}
-use Rattle.field.proofs.Decide.{sound-iff}
-use Rattle.field.proofs.State.{pair-talks, talks-pair, speaker-lt, speaker-works}
-use Rattle.field.proofs.Same.{works-word}
-use Rattle.field.proofs.Hear.{added-word}
-use Rattle.field.proofs.Scanned.{fits-word, word-heard, quick-is}
-use Rattle.field.proofs.Calls.{state-passed, numbers-passed, hear-passed}
+use Rattle.talk.specs.State.{heard, mapIn, worksNode, pair, says}
+use Rattle.talk.specs.Sound.{within, sound, SoundOn, Sound}
+use Rattle.talk.specs.Hear.{addMarks, added, ruledAt, changed}
+use Rattle.talk.specs.Entries.{checkState, checkWord, hearAnswer}
+use Rattle.states.specs.Scan.{Ready, isOwn, isHeard, fits, quickRule}
+use Rattle.talk.proofs.Decide.{sound-iff}
+use Rattle.talk.proofs.State.{pair-talks, talks-pair, speaker-lt, speaker-works}
+use Rattle.talk.proofs.Same.{works-word}
+use Rattle.talk.proofs.Hear.{added-word}
+use Rattle.talk.proofs.Calls.{state-passed, numbers-passed, hear-passed}
+use Rattle.states.proofs.Scanned.{fits-word, word-heard, quick-is}
 
 -- ---- the checks
 

@@ -1,25 +1,25 @@
 // The public calls on a state. Each takes every input.
-use crate::bytes::rule_byte;
-use crate::bytes::unfit;
 use crate::checks::and_then;
 use crate::checks::check_fresh;
 use crate::checks::check_numbers;
 use crate::checks::check_question;
 use crate::checks::unless;
 use crate::making::put_fresh;
-use crate::pairs::pair;
-use crate::pairs::says;
-use crate::scan::all_right;
-use crate::scan::scan;
 use mesh::Answer;
 use mesh::Numbered;
 use mesh::Refusal;
 use mesh::Sizes;
+use states::bytes::rule_byte;
+use states::bytes::unfit;
+use states::pairs::pair;
+use states::pairs::says;
+use states::scan::all_right;
+use states::scan::scan;
 ghost use mathlib.Core.Path.{_≡_};
 ghost use lib.ListN.{length};
 ghost use Rattle.mesh.specs.declared.Answer.the-variants.{Done};
-ghost use Rattle.field.specs.Hear.{changed};
-ghost use Rattle.field.specs.Entries.{freshAnswer, freshOut, soundAnswer, outstandingAnswer, hearAnswer, hearOut};
+ghost use Rattle.talk.specs.Hear.{changed};
+ghost use Rattle.talk.specs.Entries.{freshAnswer, freshOut, soundAnswer, outstandingAnswer, hearAnswer, hearOut};
 
 // A fresh state of the map: refusals 1, 2, 4 and 5.
 pub fn fresh(s: Sizes, cells: &[u8], orientation: usize, state: &mut [u8]) -> Answer

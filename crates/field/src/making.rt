@@ -1,18 +1,19 @@
 // Making a fresh state: heard words are 0, and own bytes follow from that. The nodes in their order, row by row.
-use crate::bytes::faulty_hears;
-use crate::bytes::rule_byte;
 use mesh::Place;
 use mesh::Sizes;
 use mesh::cells::faulty_bit;
 use mesh::cells::faulty_cell;
+use states::bytes::faulty_hears;
+use states::bytes::rule_byte;
 ghost use mathlib.Core.Path.{_≡_};
 ghost use mathlib.Core.Bool.{cond};
 ghost use Prim.Native.Nat.{ℕ, _+_, _*_, _<_, _≤_};
 ghost use lib.ListN.{length, getD};
 ghost use Rattle.mesh.specs.Mesh.{InRange, Inside, nodes, number};
 ghost use Rattle.mesh.specs.Cells.{Map, mapOf, faultyCell, stateLength};
-ghost use Rattle.field.specs.Sound.{faultyHears, fresh};
-ghost use Rattle.field.specs.Scan.{Held, Near, freshUp, freshDown, Stored, Fresh};
+ghost use Rattle.talk.specs.Sound.{faultyHears, fresh};
+ghost use Rattle.states.specs.Scan.{Held, Near};
+ghost use Rattle.field.specs.Making.{freshUp, freshDown, Stored, Fresh};
 
 // What a node hears from the neighbour with the next coordinate on an axis, if that says 0.
 fn fresh_up(cells: &[u8], k: usize, c: usize, n: usize, step: usize) -> u8

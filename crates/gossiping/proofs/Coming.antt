@@ -9,13 +9,13 @@ use Rattle.mesh.specs.Mesh.{inRange}
 use Rattle.mesh.specs.declared.Sizes.{Sizes}
 use Rattle.mesh.proofs.Tests.{holds-true}
 use Rattle.mesh.proofs.Answers.{sizes-is}
-use Rattle.field.specs.State.{heard, mapIn, pair}
-use Rattle.field.specs.Entries.{hearOut}
-use Rattle.field.specs.Rounds.{hearing}
-use Rattle.field.specs.Scan.{Ready}
-use Rattle.field.proofs.Same.{on-state}
-use Rattle.field.proofs.Calls.{no-news}
-use Rattle.field.proofs.Promise.{promise}
+use Rattle.talk.specs.State.{heard, mapIn, pair}
+use Rattle.talk.specs.Entries.{hearOut}
+use Rattle.talk.specs.Rounds.{hearing}
+use Rattle.states.specs.Scan.{Ready}
+use Rattle.talk.proofs.Same.{on-state}
+use Rattle.talk.proofs.Calls.{no-news}
+use Rattle.talk.proofs.Promise.{promise}
 use Rattle.gossiping.specs.Links.{Fit}
 
 module _ (S : Sizes) (o : ℕ) (s : List ℕ) (f : Fit S o s) where

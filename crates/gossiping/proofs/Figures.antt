@@ -17,11 +17,11 @@ use Rattle.mesh.specs.declared.Refusal.{Refusal}
 use Rattle.mesh.proofs.Tables.{sum-same}
 use Rattle.mesh.proofs.Numbers.{place-in}
 use Rattle.mesh.proofs.Bytes.{mark-has}
-use Rattle.field.specs.State.{own, mapIn, faultyNode}
-use Rattle.field.specs.Hear.{outstanding}
-use Rattle.field.specs.Entries.{outstandingAnswer}
-use Rattle.field.specs.Promise.{workers}
-use Rattle.field.proofs.Calls.{counts}
+use Rattle.talk.specs.State.{own, mapIn, faultyNode}
+use Rattle.talk.specs.Hear.{outstanding}
+use Rattle.talk.specs.Entries.{outstandingAnswer}
+use Rattle.talk.specs.Promise.{workers}
+use Rattle.talk.proofs.Calls.{counts}
 use Rattle.report.specs.Counts.{faultyCount, markedCount, faultyAmong}
 use Rattle.report.proofs.Counted.{faulty-counted}
 use Rattle.gossiping.specs.Links.{Fit}

@@ -1,11 +1,11 @@
--- A round without loss is the sweep of field/proofs, and so a full round in 01's sense. Assumes nothing.
+-- A round without loss is the sweep of talk/proofs, and so a full round in 01's sense. Assumes nothing.
 use mathlib.Core.Path.{_≡_, refl, ap, _∙_}
 use mathlib.Core.List.{List, [], _∷_}
 use Prim.Native.Nat.{ℕ, zero, suc, _/_, _%_}
 use Rattle.mesh.specs.declared.Sizes.{Sizes}
-use Rattle.field.specs.Rounds.{hearing, run, held}
-use Rattle.field.proofs.Later.{run-append}
-use Rattle.field.proofs.Exists.{sweep}
+use Rattle.talk.specs.Rounds.{hearing, run, held}
+use Rattle.talk.proofs.Later.{run-append}
+use Rattle.talk.proofs.Exists.{sweep}
 use Rattle.gossiping.specs.Links.{links, saying, comes}
 use Rattle.gossiping.specs.Rounds.{tells, fullRound}
 

@@ -9,11 +9,11 @@ use lib.ListN.{length-replicate, getD}
 use Rattle.mesh.specs.Mesh.{InRange}
 use Rattle.mesh.specs.Cells.{Map}
 use Rattle.mesh.specs.declared.Sizes.{Sizes}
-use Rattle.field.specs.Sound.{fresh}
-use Rattle.field.specs.Rounds.{hearing, run, Later}
-use Rattle.field.proofs.Later.{stretch-join, run-append}
-use Rattle.field.proofs.Exists.{sweep, sweep-kept}
-use Rattle.field.proofs.Fresh.{fresh-promise}
+use Rattle.talk.specs.Sound.{fresh}
+use Rattle.talk.specs.Rounds.{hearing, run, Later}
+use Rattle.talk.proofs.Later.{stretch-join, run-append}
+use Rattle.talk.proofs.Exists.{sweep, sweep-kept}
+use Rattle.talk.proofs.Fresh.{fresh-promise}
 use Rattle.gossiping.specs.Chance.{following, chosen, Fate, lost, late, twice, once, fateOf}
 use Rattle.gossiping.specs.Links.{links, Net, net, saying, comes, stateBy, visit, Going}
 use Rattle.gossiping.specs.Rounds.{strides, met, visits, lossyRound, fullRound, lossyRounds, oneRound, afterRounds}

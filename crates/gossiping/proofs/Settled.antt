@@ -14,15 +14,15 @@ use Rattle.mesh.specs.declared.Sizes.{Sizes}
 use Rattle.mesh.specs.declared.Numbered.the-variants.{Number}
 use Rattle.mesh.proofs.Tests.{holds-true}
 use Rattle.mesh.proofs.Answers.{sizes-is}
-use Rattle.field.specs.Sound.{SoundOn, fresh}
-use Rattle.field.specs.Entries.{outstandingAnswer}
-use Rattle.field.specs.Rounds.{run, FullRounds, none, more}
-use Rattle.field.specs.Promise.{Promise}
-use Rattle.field.proofs.Same.{sound-on}
-use Rattle.field.proofs.Fresh.{fresh-promise}
-use Rattle.field.proofs.Soon.{soon-settled}
-use Rattle.field.proofs.Exists.{sweep, sweep-full}
-use Rattle.field.proofs.Promise.{promise}
+use Rattle.talk.specs.Sound.{SoundOn, fresh}
+use Rattle.talk.specs.Entries.{outstandingAnswer}
+use Rattle.talk.specs.Rounds.{run, FullRounds, none, more}
+use Rattle.talk.specs.Promise.{Promise}
+use Rattle.talk.proofs.Same.{sound-on}
+use Rattle.talk.proofs.Fresh.{fresh-promise}
+use Rattle.talk.proofs.Soon.{soon-settled}
+use Rattle.talk.proofs.Exists.{sweep, sweep-full}
+use Rattle.talk.proofs.Promise.{promise}
 use Rattle.gossiping.specs.Links.{links, net}
 use Rattle.gossiping.specs.Rounds.{lossyRound, fullRound, lossyRounds, oneRound, afterRounds}
 use Rattle.gossiping.specs.Figures.{outstandingAfter, settledFrom, longest, settledAt}

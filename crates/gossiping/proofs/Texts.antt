@@ -12,9 +12,9 @@ use Rattle.mesh.specs.declared.Sizes.{Sizes}
 use Rattle.mesh.specs.declared.Answer.the-variants.{Done}
 use Rattle.mesh.proofs.Tests.{holds-true}
 use Rattle.mesh.proofs.Answers.{sizes-is, map-granted}
-use Rattle.field.specs.Sound.{fresh}
-use Rattle.field.specs.Entries.{freshOut}
-use Rattle.field.proofs.Calls.{fresh-passed}
+use Rattle.talk.specs.Sound.{fresh}
+use Rattle.talk.specs.Entries.{freshOut}
+use Rattle.talk.proofs.Calls.{fresh-passed}
 use Rattle.text.specs.Text.{Said}
 use Rattle.text.proofs.Saying.{said-none}
 use Rattle.gossiping.specs.Text.{octantText, octantTexts}

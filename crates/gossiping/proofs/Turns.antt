@@ -9,9 +9,9 @@ use lib.ListN.{length, replicate}
 use Rattle.mesh.specs.Mesh.{InRange}
 use Rattle.mesh.specs.Cells.{Map}
 use Rattle.mesh.specs.declared.Sizes.{Sizes}
-use Rattle.field.specs.Sound.{fresh}
-use Rattle.field.specs.Hear.{outstanding}
-use Rattle.field.proofs.Same.{outstanding-in}
+use Rattle.talk.specs.Sound.{fresh}
+use Rattle.talk.specs.Hear.{outstanding}
+use Rattle.talk.proofs.Same.{outstanding-in}
 use Rattle.text.specs.Text.{Said}
 use Rattle.text.proofs.Saying.{said-none, said-next, said-as}
 use Rattle.gossiping.specs.Chance.{seed}

@@ -8,8 +8,8 @@ use Rattle.mesh.specs.Mesh.{nodes}
 use Rattle.mesh.specs.Cells.{Map}
 use Rattle.mesh.specs.Marks.{useless, cantReach, has}
 use Rattle.mesh.specs.declared.Sizes.{Sizes}
-use Rattle.field.specs.State.{own}
-use Rattle.field.specs.Hear.{outstandingOn}
+use Rattle.talk.specs.State.{own}
+use Rattle.talk.specs.Hear.{outstandingOn}
 use Rattle.gossiping.specs.Rounds.{lossyRounds, afterRounds}
 
 -- how many marks the nodes hold: a node that holds both counts twice

@@ -5,9 +5,9 @@ use mathlib.Core.Path.{_≡_}
 use lib.ListN.{length, getD, set}
 use Rattle.mesh.specs.Mesh.{InRange, nodes}
 use Rattle.mesh.specs.declared.Sizes.{Sizes}
-use Rattle.field.specs.State.{says}
-use Rattle.field.specs.Sound.{Sound}
-use Rattle.field.specs.Entries.{hearOut}
+use Rattle.talk.specs.State.{says}
+use Rattle.talk.specs.Sound.{Sound}
+use Rattle.talk.specs.Entries.{hearOut}
 use Rattle.gossiping.specs.Chance.{following, chosen, Fate, lost, late, twice, once, fateOf}
 
 -- a link for each listener and direction: link l leads to node l / 6, from its neighbour in direction l % 6

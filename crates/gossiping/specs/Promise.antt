@@ -5,10 +5,10 @@ use Prim.Native.Nat.{ℕ, _+_, _<_, _≤_}
 use Rattle.mesh.specs.Cells.{Map}
 use Rattle.mesh.specs.Marks.{useless, cantReach}
 use Rattle.mesh.specs.declared.Numbered.the-variants.{Number}
-use Rattle.field.specs.Sound.{fresh}
-use Rattle.field.specs.Entries.{outstandingAnswer}
-use Rattle.field.specs.Rounds.{Later, FullRounds}
-use Rattle.field.specs.Promise.{Settled}
+use Rattle.talk.specs.Sound.{fresh}
+use Rattle.talk.specs.Entries.{outstandingAnswer}
+use Rattle.talk.specs.Rounds.{Later, FullRounds}
+use Rattle.talk.specs.Promise.{Settled}
 use Rattle.report.specs.Counts.{markedCount}
 use Rattle.gossiping.specs.Rounds.{lossyRounds, afterRounds}
 use Rattle.gossiping.specs.Figures.{outstandingAfter, marksAfter, longest, settledAt}

@@ -6,7 +6,7 @@ use lib.Dec.{ltb}
 use lib.ListN.{getD, replicate}
 use Rattle.mesh.specs.Cells.{Map}
 use Rattle.mesh.specs.declared.Sizes.{Sizes}
-use Rattle.field.specs.Sound.{fresh}
+use Rattle.talk.specs.Sound.{fresh}
 use Rattle.gossiping.specs.Chance.{seed, following, chosen}
 use Rattle.gossiping.specs.Links.{links, Net, net, saying, comes, visit}
 

@@ -12,7 +12,7 @@ use Rattle.mapfile.specs.declared.MapRead.the-variants.{Read, NotRead}
 use Rattle.text.specs.Text.{ascii, told}
 use Rattle.report.specs.Counts.{faultyCount}
 use Rattle.report.specs.Report.{firstLine, orientations, refusalLine, largest}
-use Rattle.field.specs.Promise.{workers, enoughRounds}
+use Rattle.talk.specs.Promise.{workers, enoughRounds}
 use Rattle.gossiping.specs.Rounds.{lossyRounds}
 use Rattle.gossiping.specs.Figures.{outstandingAfter, marksAfter, settledAt}
 

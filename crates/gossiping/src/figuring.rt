@@ -8,9 +8,9 @@ ghost use Prim.Native.Nat.{_≤_};
 ghost use Rattle.mesh.specs.Answers.{checkMap};
 ghost use Rattle.mesh.specs.Cells.{mapOf};
 ghost use Rattle.mesh.specs.declared.Answer.the-variants.{Done};
-ghost use Rattle.field.specs.Hear.{outstanding};
-ghost use Rattle.field.specs.Promise.{workers};
-ghost use Rattle.field.specs.Scan.{Ready};
+ghost use Rattle.talk.specs.Hear.{outstanding};
+ghost use Rattle.talk.specs.Promise.{workers};
+ghost use Rattle.states.specs.Scan.{Ready};
 ghost use Rattle.gossiping.specs.Links.{Fit};
 ghost use Rattle.gossiping.specs.Figures.{marksIn, marksHeld};
 

@@ -2,17 +2,17 @@
 use crate::chance::chosen;
 use crate::chance::following;
 use field::entry::hear;
-use field::pairs::pair;
-use field::pairs::says;
 use mesh::Sizes;
+use states::pairs::pair;
+use states::pairs::says;
 ghost use mathlib.Core.Path.{_≡_};
 ghost use mathlib.Core.Bool.{not, _&&_};
 ghost use Prim.Native.Nat.{_/_, _%_, _<_};
 ghost use lib.Dec.{eqb};
 ghost use lib.ListN.{length, getD, set};
 ghost use Rattle.mesh.specs.Mesh.{nodes};
-ghost use Rattle.field.specs.State.{mapIn, heard, pair};
-ghost use Rattle.field.specs.Scan.{Ready};
+ghost use Rattle.talk.specs.State.{mapIn, heard, pair};
+ghost use Rattle.states.specs.Scan.{Ready};
 ghost use Rattle.gossiping.specs.Links.{links, net, saying, comes, visit, Fit, Going};
 
 // Does the word differ from what was heard over the link, and may it cross?

@@ -8,12 +8,12 @@ use Rattle.components.specs.Touch.{unsafeNodes, touch, grown, component}
 use Rattle.components.specs.Components.{lowest, lowestNodes, numberAmong, tableOf, recordOf, recordsOf, howMany}
 use Rattle.components.specs.Entry.{componentsCheck, componentsAnswer, tableWritten, rowWritten}
 use Rattle.routes.proofs.Computed.{computed as routes}
-use Rattle.field.proofs.Computed.{computed as field}
+use Rattle.talk.proofs.Computed.{computed as talk}
 use Rattle.samples.specs.Questions.{reply}
 use Rattle.samples.specs.Rows.{Row, rows}
 
 pub samples-hold : map (λ (r : Row). reply (r .asked)) rows ≡ map (λ (r : Row). r .answer) rows
-unfolding routes field marked stuckWithin stuck markAt marksOf marksAnswer marksWritten
+unfolding routes talk marked stuckWithin stuck markAt marksOf marksAnswer marksWritten
     anyOf keep least greatest unsafeNodes touch grown component lowest lowestNodes numberAmong tableOf recordOf recordsOf howMany
     componentsCheck componentsAnswer tableWritten rowWritten
 samples-hold = refl

@@ -12,9 +12,9 @@ use Rattle.components.specs.Entry.{componentsAnswer, componentsRow}
 use Rattle.components.specs.declared.Component.{Component}
 use Rattle.routes.specs.Entries.{verdictAnswer, verdictNo, verdictHops, verdictOffered, routeAnswer, routeOut}
 use Rattle.routes.specs.declared.Verdict.{Verdict}
-use Rattle.field.specs.State.{own}
-use Rattle.field.specs.Entries.{freshOut, hearAnswer, hearOut, outstandingAnswer}
-use Rattle.field.specs.Rounds.{Call, run}
+use Rattle.talk.specs.State.{own}
+use Rattle.talk.specs.Entries.{freshOut, hearAnswer, hearOut, outstandingAnswer}
+use Rattle.talk.specs.Rounds.{Call, run}
 
 -- of a map: the marks or the components in an orientation; the verdict or the route from a node to a node; and, orientation 0, what a word
 -- does, or how many are outstanding, after a fresh state and these calls

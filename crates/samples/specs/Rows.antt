@@ -3,7 +3,7 @@ use mathlib.Core.List.{List, [], _∷_, _++_}
 use Prim.Native.Nat.{ℕ}
 use Rattle.mesh.specs.Mesh.{sizes}
 use Rattle.mesh.specs.Cells.{Map, mapOf}
-use Rattle.field.specs.Rounds.{Call, hearing}
+use Rattle.talk.specs.Rounds.{Call, hearing}
 use Rattle.samples.specs.Questions.{Question, marks, components, verdict, route, word, outstanding}
 
 pub record Row : Type 0 where

@@ -1,6 +1,6 @@
 -- `field::checks::check_fresh` meets its contract: its checks are joined as the definition joins them. Assumes nothing.
 use mathlib.Core.Path.{_∙_}
-use Rattle.field.specs.Entries.{freshAnswer}
+use Rattle.talk.specs.Entries.{freshAnswer}
 use borrow.Author.Needs.{needs}
 use Rattle.field.proofs.checks.check_fresh.Statement.{statement}
 use Rattle.field.proofs.checks.check_fresh.Tie as tie

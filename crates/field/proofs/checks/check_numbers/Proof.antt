@@ -7,7 +7,7 @@ use Rattle.mesh.specs.Answers.{_andThen_, checkOrientation}
 use Rattle.mesh.specs.declared.Refusal.the-variants.{BadNumber}
 use Rattle.mesh.specs.declared.Answer.the-variants.{Done}
 use Rattle.mesh.proofs.Answers.{split}
-use Rattle.field.specs.Entries.{checkState}
+use Rattle.talk.specs.Entries.{checkState}
 use Rattle.field.proofs.Taken.{state-sized, three-tests}
 use borrow.Author.Needs.{needs}
 use Rattle.field.proofs.checks.check_numbers.Statement.{statement}

@@ -4,7 +4,7 @@ use mathlib.Core.Bool.{true}
 use borrow.Author.Tests.{not-true, not-false}
 use Rattle.mesh.specs.Mesh.{inRange}
 use Rattle.mesh.proofs.Answers.{sizes-of}
-use Rattle.field.specs.Entries.{checkState}
+use Rattle.talk.specs.Entries.{checkState}
 use borrow.Author.Needs.{needs}
 use Rattle.field.proofs.checks.check_state.Statement.{statement}
 use Rattle.field.proofs.checks.check_state.Tie as tie

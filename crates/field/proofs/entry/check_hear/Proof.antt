@@ -5,7 +5,7 @@ use denote.Ref.{now}
 use lib.ListN.{length}
 use Rattle.mesh.specs.Answers.{_andThen_, checkOrientation, checkNode, checkDirection}
 use Rattle.mesh.specs.declared.Answer.the-variants.{Done}
-use Rattle.field.specs.Entries.{checkState, checkWord, hearAnswer}
+use Rattle.talk.specs.Entries.{checkState, checkWord, hearAnswer}
 use Rattle.field.proofs.Taken.{Numbers, numbers, word-low, held-last}
 use borrow.Author.Needs.{needs}
 use Rattle.field.proofs.entry.check_hear.Statement.{statement}

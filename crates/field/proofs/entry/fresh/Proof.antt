@@ -5,9 +5,9 @@ use lib.ListN.{length}
 use Rattle.mesh.specs.Cells.{mapOf}
 use Rattle.mesh.specs.declared.Answer.the-variants.{Done}
 use Rattle.mesh.proofs.Answers.{kept, map-granted}
-use Rattle.field.specs.Sound.{fresh}
-use Rattle.field.specs.Entries.{freshAnswer}
-use Rattle.field.proofs.Calls.{fresh-passed}
+use Rattle.talk.specs.Sound.{fresh}
+use Rattle.talk.specs.Entries.{freshAnswer}
+use Rattle.talk.proofs.Calls.{fresh-passed}
 use borrow.Author.Needs.{needs}
 use Rattle.field.proofs.entry.fresh.Statement.{statement}
 use Rattle.field.proofs.entry.fresh.Tie as tie

@@ -3,8 +3,8 @@ use mathlib.Core.Path.{_≡_, _∙_, sym}
 use denote.Ref.{now}
 use Rattle.mesh.specs.declared.Answer.the-variants.{Done}
 use Rattle.mesh.proofs.Answers.{kept}
-use Rattle.field.specs.Hear.{changed}
-use Rattle.field.specs.Entries.{hearAnswer}
+use Rattle.talk.specs.Hear.{changed}
+use Rattle.talk.specs.Entries.{hearAnswer}
 use borrow.Author.Needs.{needs}
 use Rattle.field.proofs.entry.hear.Statement.{statement}
 use Rattle.field.proofs.entry.hear.Tie as tie

@@ -4,7 +4,7 @@ use denote.Ref.{now}
 use lib.ListN.{length}
 use Rattle.mesh.specs.Answers.{_andThen_, checkOrientation}
 use Rattle.mesh.specs.declared.Answer.the-variants.{Done}
-use Rattle.field.specs.Entries.{checkState, soundAnswer}
+use Rattle.talk.specs.Entries.{checkState, soundAnswer}
 use Rattle.field.proofs.Taken.{question-ready}
 use borrow.Author.Needs.{needs}
 use Rattle.field.proofs.entry.sound.Statement.{statement}

@@ -6,8 +6,8 @@ use native.Mathlib.Omega.{arith}
 use denote.Ref.{now}
 use lib.ListN.{getD, length-set}
 use Rattle.mesh.specs.Cells.{faultyCell}
-use Rattle.field.specs.Sound.{faultyHears}
-use Rattle.field.specs.Scan.{freshUp, freshDown}
+use Rattle.talk.specs.Sound.{faultyHears}
+use Rattle.field.specs.Making.{freshUp, freshDown}
 use Rattle.field.proofs.Made.{stored-two}
 use borrow.Author.Needs.{needs}
 use Rattle.field.proofs.making.put_axis.Statement.{statement}

@@ -6,7 +6,7 @@ use native.Mathlib.Omega.{arith}
 use denote.Ref.{now}
 use Rattle.mesh.specs.Cells.{mapOf}
 use Rattle.mesh.proofs.Numbers.{rows-le}
-use Rattle.field.specs.Scan.{Fresh}
+use Rattle.field.specs.Making.{Fresh}
 use Rattle.field.proofs.Made.{fresh-none, fresh-all}
 use Rattle.field.proofs.making.put_fresh.Statement.{statement}
 use Rattle.field.proofs.making.put_fresh.Tie as tie

@@ -10,9 +10,9 @@ use Rattle.mesh.specs.Mesh.{Axis, X, Y, Z, span, on, number, placeOf}
 use Rattle.mesh.specs.Cells.{mapOf, faultyCell}
 use Rattle.mesh.proofs.Numbers.{nodes-le, layer-le}
 use Rattle.mesh.proofs.Strides.{stride}
-use Rattle.field.specs.State.{heard}
-use Rattle.field.specs.Scan.{Held, Near, quickRule}
-use Rattle.field.proofs.Shown.{beside}
+use Rattle.talk.specs.State.{heard}
+use Rattle.states.specs.Scan.{Held, Near, quickRule}
+use Rattle.states.proofs.Shown.{beside}
 use Rattle.field.proofs.Made.{node-done}
 use borrow.Author.Needs.{needs}
 use Rattle.field.proofs.making.put_node.Statement.{statement}

@@ -8,7 +8,7 @@ use denote.Ref.{now}
 use Rattle.mesh.specs.Mesh.{number}
 use Rattle.mesh.specs.Cells.{mapOf}
 use Rattle.mesh.proofs.Strides.{inRow, row-number, row-in}
-use Rattle.field.specs.Scan.{Fresh}
+use Rattle.field.specs.Making.{Fresh}
 use Rattle.field.proofs.making.put_row.Statement.{statement}
 use Rattle.field.proofs.making.put_row.Tie as tie
 

@@ -7,7 +7,7 @@ use denote.Ref.{now}
 use Rattle.mesh.specs.Tools.{sum}
 use Rattle.mesh.specs.Mesh.{nodes}
 use Rattle.mesh.proofs.Tables.{sum-more}
-use Rattle.field.specs.State.{own}
+use Rattle.talk.specs.State.{own}
 use Rattle.gossiping.specs.Figures.{marksIn, marksHeld}
 use Rattle.gossiping.proofs.figuring.marks_held.Statement.{statement}
 use Rattle.gossiping.proofs.figuring.marks_held.Tie as tie

@@ -1,0 +1,31 @@
+-- How the code makes a fresh state: node by node, each from the cells of its neighbours. `fresh-all` of proofs/ shows that it makes what 01
+-- says. Assumes nothing.
+use mathlib.Core.Bool.{cond}
+use mathlib.Core.List.{List}
+use mathlib.Core.Path.{_≡_}
+use Prim.Native.Nat.{ℕ, _+_, _-_, _*_, _<_}
+use lib.Dec.{ltb}
+use lib.ListN.{length, getD}
+use Rattle.mesh.specs.Tools.{bit}
+use Rattle.mesh.specs.Cells.{Map, faultyCell, stateLength}
+use Rattle.talk.specs.State.{own, heard}
+use Rattle.talk.specs.Sound.{freshHeard, freshOwn}
+
+-- what a node hears on an axis from neighbours that say 0
+abbrev pub freshUp : List ℕ → ℕ → ℕ → ℕ → ℕ → ℕ
+freshUp cells k c n step = cond (ltb (c + 1) n) (bit (faultyCell (getD cells (k + step) 0))) 8
+
+abbrev pub freshDown : List ℕ → ℕ → ℕ → ℕ → ℕ
+freshDown cells k c step = cond (ltb 0 c) (bit (faultyCell (getD cells (k - step) 0))) 8
+
+-- node k now holds v for direction j and w for the next; nothing else has changed
+pub record Stored (old new : List ℕ) (k j v w : ℕ) : Type 0 where
+  pub up : heard new k j ≡ v
+  pub down : heard new k (j + 1) ≡ w
+  pub kept : (i : ℕ) → (i ≡ 7 * k + 1 + j → ⊥) → (i ≡ 7 * k + 1 + (j + 1) → ⊥) → getD new i 0 ≡ getD old i 0
+
+-- the first n nodes hold what the fresh state does
+pub record Fresh (m : Map) (o n : ℕ) (s : List ℕ) : Type 0 where
+  pub long : length s ≡ stateLength (m .sizes)
+  pub owns : (k : ℕ) → k < n → own s k ≡ freshOwn m o k
+  pub hears : (k j : ℕ) → k < n → j < 6 → heard s k j ≡ freshHeard m k j

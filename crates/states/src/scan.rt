@@ -1,0 +1,132 @@
+// The one scan of a state: is it sound, and how many words are outstanding? The nodes in their order, row by row, each with six bytes at once, so
+// that what a byte holds leads to no branch.
+use crate::bytes::faulty_hears;
+use crate::six::ONES;
+use crate::six::heard;
+use crate::six::ruled;
+use crate::six::six;
+use crate::six::some;
+use mesh::Numbered;
+use mesh::Place;
+use mesh::Refusal;
+use mesh::Sizes;
+ghost use mathlib.Core.Path.{_≡_};
+ghost use Prim.Native.Nat.{_+_, _*_, _<_, _≤_};
+ghost use lib.Dec.{eqb};
+ghost use Rattle.mesh.specs.Mesh.{Inside, number};
+ghost use Rattle.mesh.specs.Answers.{numbered, unless};
+ghost use Rattle.mesh.specs.declared.Refusal.the-variants.{Unsound};
+ghost use Rattle.talk.specs.Sound.{sound};
+ghost use Rattle.talk.specs.Hear.{outstanding};
+ghost use Rattle.states.specs.Scan.{Ready, Held, Near, Bytes, six, ones, _isBut255_};
+ghost use Rattle.states.specs.Scan.{shownUp, shownDown, shows, nodeTest, rowTest, nodeNews, rowNews};
+
+// What is seen at a node, or in a row: 0 if all is right, and the words outstanding.
+pub struct Seen {
+    pub wrong: u64,
+    pub news: u64,
+}
+
+// What the neighbour with the next coordinate on an axis shows node k.
+fn shown_up(state: &[u8], k: usize, c: usize, n: usize, step: usize) -> u8
+    requires { ⌜ (c < n) × Near (Held (now state)) k c n step ⌝ }
+    ensures { λ r. ⌜ r ≡ shownUp (now (state .entry)) k c n step ⌝ }
+{
+    if c + 1 < n { state[7 * (k + step)] } else { 8 }
+}
+
+// And the one with the coordinate before.
+fn shown_down(state: &[u8], k: usize, c: usize, n: usize, step: usize) -> u8
+    requires { ⌜ Near (Held (now state)) k c n step ⌝ }
+    ensures { λ r. ⌜ r ≡ shownDown (now (state .entry)) k c step ⌝ }
+{
+    if 0 < c { state[7 * (k - step)] } else { 8 }
+}
+
+// What its neighbours show the node at p, whose number is k.
+fn shown(s: Sizes, state: &[u8], p: Place, k: usize) -> u64
+    requires { ⌜ Ready s (now state) × Inside s p × (k ≡ number s p) ⌝ }
+    ensures { λ r. ⌜ (r ≡ six (shows s (now (state .entry)) k)) × Bytes (shows s (now (state .entry)) k) ⌝ }
+{
+    let layer = s.w * s.h;
+    let x = shown_up(state, k, p.x, s.w, 1);
+    let back_x = shown_down(state, k, p.x, s.w, 1);
+    let y = shown_up(state, k, p.y, s.h, s.w);
+    let back_y = shown_down(state, k, p.y, s.h, s.w);
+    let z = shown_up(state, k, p.z, s.d, layer);
+    let back_z = shown_down(state, k, p.z, s.d, layer);
+    six(x, back_x, y, back_y, z, back_z)
+}
+
+// The node at p. The words outstanding come as a 1 for each direction.
+fn node(s: Sizes, o: usize, state: &[u8], p: Place) -> Seen
+    requires { ⌜ Ready s (now state) × (o ≤ 7) × Inside s p ⌝ }
+    ensures { λ r. ⌜ (eqb (r .wrong) 0 ≡ nodeTest s o (now (state .entry)) (number s p))
+        × (r .news isBut255 nodeNews s (now (state .entry)) (number s p)) × (r .news ≤ ones) ⌝ }
+{
+    let k = s.number(p);
+    let own = state[7 * k];
+    let told = heard(state, k);
+    let said = shown(s, state, p, k);
+    let faulty = told ^ faulty_hears() as u64 * ONES;
+    let sides = (told | said & 6 * ONES) ^ said;
+    let wrong = own as u64 ^ ruled(s, o, told) as u64 | sides;
+    let news = some(said ^ told);
+    if own == 1 {
+        Seen {
+            wrong: faulty,
+            news: 0,
+        }
+    } else {
+        Seen { wrong, news }
+    }
+}
+
+// A row of nodes. The words outstanding are few enough to be counted by a remainder: each byte of six counts alike by 255.
+fn row(s: Sizes, o: usize, state: &[u8], row: usize) -> Seen
+    requires { ⌜ Ready s (now state) × (o ≤ 7) × (row < s .h * s .d) ⌝ }
+    ensures { λ r. ⌜ (eqb (r .wrong) 0 ≡ rowTest s o (now (state .entry)) row) × (r .news ≡ rowNews s (now (state .entry)) row) × (r .news ≤ 96) ⌝ }
+{
+    let y = row % s.h;
+    let z = row / s.h;
+    let mut wrong = 0;
+    let mut news = 0;
+    for x in 0..s.w {
+        let seen = node(s, o, state, Place { x, y, z });
+        wrong = seen.wrong | wrong;
+        news += seen.news;
+    }
+    Seen {
+        wrong,
+        news: news % 255,
+    }
+}
+
+// All nodes: refusal 6, or how many words are outstanding.
+pub fn scan(s: Sizes, o: usize, state: &[u8]) -> Numbered
+    requires { ⌜ Ready s (now state) × (o ≤ 7) ⌝ }
+    ensures { λ r. ⌜ r ≡ numbered (unless (sound s o (now (state .entry))) Unsound) (outstanding s (now (state .entry))) ⌝ }
+{
+    let rows = s.h * s.d;
+    let mut news = 0;
+    for at in 0..rows {
+        let seen = row(s, o, state, at);
+        if seen.wrong != 0 {
+            return Numbered::NotNumbered(Refusal::Unsound);
+        }
+        news += seen.news as usize;
+    }
+    Numbered::Number(news)
+}
+
+// Is the state sound?
+pub fn all_right(s: Sizes, o: usize, state: &[u8]) -> bool
+    requires { ⌜ Ready s (now state) × (o ≤ 7) ⌝ }
+    ensures { λ r. ⌜ r ≡ sound s o (now (state .entry)) ⌝ }
+{
+    if let Numbered::Number(n) = scan(s, o, state) {
+        true
+    } else {
+        false
+    }
+}

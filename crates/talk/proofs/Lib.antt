@@ -1,0 +1,16 @@
+pub mod State
+pub mod Decide
+pub mod Same
+pub mod Rule
+pub mod Fresh
+pub mod Hear
+pub mod Calls
+pub mod Later
+pub mod Exact
+pub mod Rounds
+pub mod Soon
+pub mod Exists
+pub mod Promise
+pub mod Flat
+pub mod Computed
+pub mod Impostors
