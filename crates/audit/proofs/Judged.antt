@@ -18,14 +18,14 @@ use Rattle.mesh.specs.declared.Answer.{Answer}
 use Rattle.mesh.specs.declared.Answer.the-variants.{Done, Refused}
 use Rattle.mesh.proofs.Answers.{split, ok-of}
 use Rattle.mesh.proofs.Tests.{holds-true}
-use Rattle.routes.specs.Differences.{hops}
-use Rattle.routes.specs.Paths.{leads}
-use Rattle.routes.specs.Offered.{offered, route}
-use Rattle.routes.specs.Entries.{judged, checkEnds, checkPath, verdictCheck, verdictAnswer, routeCheck, routeWritten, routeOut}
-use Rattle.routes.specs.declared.Verdict.the-variants.{Granted, NotGranted}
-use Rattle.routes.proofs.Differences.{hops-le}
+use Rattle.paths.specs.Differences.{hops}
+use Rattle.paths.specs.Paths.{leads}
+use Rattle.paths.specs.Offered.{offered, route}
+use Rattle.paths.specs.Entries.{judged, checkEnds, checkPath, verdictCheck, verdictAnswer, routeCheck, routeWritten, routeOut}
+use Rattle.paths.specs.declared.Verdict.the-variants.{Granted, NotGranted}
+use Rattle.paths.proofs.Differences.{hops-le}
+use Rattle.paths.proofs.Offered.{route-length}
 use Rattle.routes.proofs.Ends.{ends-granted}
-use Rattle.routes.proofs.Offered.{route-length}
 use Rattle.text.specs.Text.{ascii, told}
 use Rattle.text.proofs.Pieces.{pieces-same}
 use Rattle.audit.specs.Audit.{noPath, grantedText}

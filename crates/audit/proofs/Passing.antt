@@ -6,9 +6,9 @@ use Prim.Native.Nat.{ℕ, _+_, _≤_, _<_}
 use native.Mathlib.Omega.{arith}
 use lib.ListN.{length, drop}
 use Rattle.mesh.specs.declared.Sizes.{Sizes}
-use Rattle.routes.specs.Entries.{verdictAnswer}
-use Rattle.routes.specs.declared.Verdict.{Verdict}
-use Rattle.routes.specs.declared.Verdict.the-variants.{Granted, NotGranted}
+use Rattle.paths.specs.Entries.{verdictAnswer}
+use Rattle.paths.specs.declared.Verdict.{Verdict}
+use Rattle.paths.specs.declared.Verdict.the-variants.{Granted, NotGranted}
 use Rattle.logfile.specs.Log.{upTo, linesOf, entryOf}
 use Rattle.logfile.specs.declared.Entry.{Entry}
 use Rattle.logfile.specs.declared.Entry.the-variants.{Nothing, Transfer, NoPair}

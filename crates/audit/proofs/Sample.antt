@@ -7,10 +7,10 @@ use Rattle.mesh.specs.Mesh.{sizes, inRange}
 use Rattle.mesh.specs.Steps.{next}
 use Rattle.mesh.specs.Cells.{faultyCell, badCell, mayPass, mayEnd, linked, firstBad}
 use Rattle.mesh.specs.Answers.{checkMap}
-use Rattle.routes.specs.Differences.{preferred, hops}
-use Rattle.routes.specs.Paths.{mayEnter, mayHop, leadsWithin, leads}
-use Rattle.routes.specs.Offered.{offers, offered, reached}
-use Rattle.routes.specs.Entries.{checkEnds, verdictCheck, verdictAnswer}
+use Rattle.paths.specs.Differences.{preferred, hops}
+use Rattle.paths.specs.Paths.{mayEnter, mayHop, leadsWithin, leads}
+use Rattle.paths.specs.Offered.{offers, offered, reached}
+use Rattle.paths.specs.Entries.{checkEnds, verdictCheck, verdictAnswer}
 use Rattle.text.specs.Text.{ascii, decimalWithin, told, pieces}
 use Rattle.logfile.specs.Log.{linesOf}
 use Rattle.audit.specs.Words.{reasons, refusalLine}

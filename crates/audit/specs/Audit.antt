@@ -9,10 +9,10 @@ use Rattle.mesh.specs.Cells.{mapOf}
 use Rattle.mesh.specs.Answers.{refusalNo}
 use Rattle.mesh.specs.declared.Sizes.{Sizes}
 use Rattle.mesh.specs.declared.Refusal.{Refusal}
-use Rattle.routes.specs.Offered.{route}
-use Rattle.routes.specs.Entries.{verdictAnswer}
-use Rattle.routes.specs.declared.Verdict.{Verdict}
-use Rattle.routes.specs.declared.Verdict.the-variants.{Granted, NotGranted}
+use Rattle.paths.specs.Offered.{route}
+use Rattle.paths.specs.Entries.{verdictAnswer}
+use Rattle.paths.specs.declared.Verdict.{Verdict}
+use Rattle.paths.specs.declared.Verdict.the-variants.{Granted, NotGranted}
 use Rattle.text.specs.Text.{ascii, told, pieces}
 use Rattle.logfile.specs.Log.{linesOf, entryOf}
 use Rattle.audit.specs.Words.{refusalLine}

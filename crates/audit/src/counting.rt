@@ -1,6 +1,6 @@
 // The totals of an audit.
 use crate::Totals;
-use routes::Verdict;
+use paths::Verdict;
 use text::tell;
 ghost use mathlib.Core.Path.{_≡_};
 ghost use Prim.Native.Nat.{_+_, _≤_};

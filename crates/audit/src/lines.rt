@@ -2,8 +2,8 @@
 use crate::words::say_refusal;
 use mesh::Refusal;
 use mesh::Sizes;
+use paths::Verdict;
 use picture::drawing::picture;
-use routes::Verdict;
 use routes::entries::route;
 use text::say;
 use text::tell;
@@ -14,10 +14,10 @@ ghost use lib.ListN.{length, getD};
 ghost use Rattle.mesh.specs.declared.Answer.the-variants.{Done};
 ghost use Rattle.mesh.specs.Mesh.{placeOf};
 ghost use Rattle.mesh.specs.Cells.{mapOf};
-ghost use Rattle.routes.specs.Differences.{hops};
-ghost use Rattle.routes.specs.Offered.{route};
-ghost use Rattle.routes.specs.Entries.{verdictCheck, verdictAnswer};
-ghost use Rattle.routes.specs.declared.Verdict.the-variants.{NotGranted};
+ghost use Rattle.paths.specs.Differences.{hops};
+ghost use Rattle.paths.specs.Offered.{route};
+ghost use Rattle.paths.specs.Entries.{verdictCheck, verdictAnswer};
+ghost use Rattle.paths.specs.declared.Verdict.the-variants.{NotGranted};
 ghost use Rattle.text.specs.Text.{ascii, told, pieces, Said};
 ghost use Rattle.audit.specs.Audit.{grantedText, refusedText, transferText};
 

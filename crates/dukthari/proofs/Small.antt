@@ -26,11 +26,11 @@ use Rattle.mesh.specs.Marks.{marksOf}
 use Rattle.marks.specs.Entry.{marksAnswer}
 use Rattle.components.specs.Components.{howMany}
 use Rattle.components.specs.Entry.{componentsCheck, componentsAnswer}
-use Rattle.routes.specs.Differences.{hops}
-use Rattle.routes.specs.Paths.{leads}
-use Rattle.routes.specs.Offered.{offered, reachedAt, reachedCount}
-use Rattle.routes.specs.Entries.{judged, checkEnd, checkEnds, verdictCheck, verdictAnswer, routeLength, routeCheck, routeAnswer, reachedCheck, reachedAnswer}
-use Rattle.routes.proofs.Differences.{hops-le}
+use Rattle.paths.specs.Differences.{hops}
+use Rattle.paths.specs.Paths.{leads}
+use Rattle.paths.specs.Offered.{offered, reachedAt, reachedCount}
+use Rattle.paths.specs.Entries.{judged, checkEnd, checkEnds, verdictCheck, verdictAnswer, routeLength, routeCheck, routeAnswer, reachedCheck, reachedAnswer}
+use Rattle.paths.proofs.Differences.{hops-le}
 use Rattle.mapfile.specs.Format.{trailerLength, fileLimit, distance, trailerAt, hasMark, sizesIn, distanceIn, cellsIn}
 use Rattle.mapfile.specs.Entry.{mapRead, checkFrame, checkTrailer, readCheck, readAnswer, writeCheck, writeAnswer}
 use Rattle.talk.specs.State.{mapIn, pair, says}

@@ -19,9 +19,9 @@ use Rattle.marks.specs.Entry.{marksAnswer, marksWritten, marksOut}
 use Rattle.components.specs.Components.{howMany}
 use Rattle.components.specs.Entry.{componentsCheck, componentsAnswer, componentsTable, componentsRow, tableWritten, rowWritten}
 use Rattle.components.specs.declared.Component.{Component}
-use Rattle.routes.specs.Offered.{reachedCount}
-use Rattle.routes.specs.Entries.{routeLength, routeCheck, routeAnswer, routeWritten, routeOut}
-use Rattle.routes.specs.Entries.{reachedCheck, reachedAnswer, reachedWritten, reachedOut}
+use Rattle.paths.specs.Offered.{reachedCount}
+use Rattle.paths.specs.Entries.{routeLength, routeCheck, routeAnswer, routeWritten, routeOut}
+use Rattle.paths.specs.Entries.{reachedCheck, reachedAnswer, reachedWritten, reachedOut}
 use Rattle.talk.specs.Sound.{fresh}
 use Rattle.talk.specs.Hear.{changed}
 use Rattle.talk.specs.Entries.{freshAnswer, freshOut, hearAnswer, hearOut}

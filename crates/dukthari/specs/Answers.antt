@@ -18,9 +18,9 @@ use Rattle.dukthari.specs.declared.DoneAnswer.{DoneAnswer}
 use Rattle.dukthari.specs.declared.CountedAnswer.{CountedAnswer}
 use Rattle.dukthari.specs.declared.VerdictAnswer.{VerdictAnswer}
 use Rattle.dukthari.specs.declared.MapAnswer.{MapAnswer}
-use Rattle.routes.specs.Entries.{verdictNo, verdictBad, verdictHops, verdictOffered}
-use Rattle.routes.specs.declared.Verdict.{Verdict}
-use Rattle.routes.specs.declared.Verdict.the-variants.{Granted, NotGranted}
+use Rattle.paths.specs.Entries.{verdictNo, verdictBad, verdictHops, verdictOffered}
+use Rattle.paths.specs.declared.Verdict.{Verdict}
+use Rattle.paths.specs.declared.Verdict.the-variants.{Granted, NotGranted}
 use Rattle.mapfile.specs.Entry.{readNo, readBad, readSizes}
 use Rattle.mapfile.specs.declared.MapRead.{MapRead}
 use Rattle.mapfile.specs.declared.MapRead.the-variants.{Read, NotRead}

@@ -10,7 +10,7 @@ use mesh::Numbered;
 use mesh::Place;
 use mesh::Refusal;
 use mesh::Sizes;
-use routes::Verdict;
+use paths::Verdict;
 ghost use mathlib.Core.Path.{_≡_};
 ghost use Prim.Native.Nat.{_≤_};
 ghost use Rattle.mesh.specs.Mesh.{sizes, place};

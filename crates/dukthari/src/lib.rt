@@ -18,7 +18,7 @@ ghost use Rattle.mesh.specs.Mesh.{sizes, place};
 ghost use Rattle.mesh.specs.Answers.{numberAnswer, placeAnswer, stepAnswer};
 ghost use Rattle.marks.specs.Entry.{marksAnswer, marksOut};
 ghost use Rattle.components.specs.Entry.{componentsAnswer, componentsTable, componentsRow};
-ghost use Rattle.routes.specs.Entries.{verdictAnswer, routeAnswer, routeOut, reachedAnswer, reachedOut};
+ghost use Rattle.paths.specs.Entries.{verdictAnswer, routeAnswer, routeOut, reachedAnswer, reachedOut};
 ghost use Rattle.dukthari.specs.Answers.{nodeFields, placeFields, stepFields, doneFields, countedFields, verdictFields};
 
 mod fields;

@@ -1,5 +1,5 @@
 -- Why a picture is a proof: no step towards the end from `S` or from an `o` leads to a dot or to `E`. So a reader who follows the steps one by
--- one needs nothing else (`closed-refuses` of `routes`). Assumes nothing.
+-- one needs nothing else (`closed-refuses` of `paths`). Assumes nothing.
 use mathlib.Core.Path.{_≡_, refl, sym, ap, _∙_, subst}
 use mathlib.Core.Logic.{_⊎_, inl, inr}
 use mathlib.Core.Bool.{Bool, true, false, cond}
@@ -19,14 +19,14 @@ use Rattle.mesh.specs.declared.Next.the-variants.{At}
 use Rattle.mesh.proofs.Tests.{T-eq, T-cond, T-no}
 use Rattle.mesh.proofs.Numbers.{number-of, place-of}
 use Rattle.mesh.proofs.Steps.{next-in}
-use Rattle.routes.specs.Differences.{preferred, same}
-use Rattle.routes.specs.Paths.{mayEnter, leads}
-use Rattle.routes.specs.Offered.{reached}
-use Rattle.routes.specs.Entries.{checkEnds}
-use Rattle.routes.proofs.Differences.{same-iff}
+use Rattle.paths.specs.Differences.{preferred, same}
+use Rattle.paths.specs.Paths.{mayEnter, leads}
+use Rattle.paths.specs.Offered.{reached}
+use Rattle.paths.specs.Entries.{checkEnds}
+use Rattle.paths.proofs.Differences.{same-iff}
+use Rattle.paths.proofs.Paths.{mayHop-iff}
+use Rattle.paths.proofs.Reached.{start-reached, reached-on, byte-iff}
 use Rattle.routes.proofs.Ends.{ends-granted}
-use Rattle.routes.proofs.Paths.{mayHop-iff}
-use Rattle.routes.proofs.Reached.{start-reached, reached-on, byte-iff}
 use Rattle.picture.specs.Picture.{symbolOf, symbolIn}
 
 -- ---- what a symbol says

@@ -15,13 +15,13 @@ use Rattle.mesh.specs.declared.Place.{Place}
 use Rattle.mesh.specs.declared.Answer.the-variants.{Done}
 use Rattle.mesh.proofs.Numbers.{nodes-le}
 use Rattle.mesh.proofs.Tables.{length-table, getD-table}
-use Rattle.routes.specs.Box.{largest, between, far}
-use Rattle.routes.specs.Offered.{reached}
-use Rattle.routes.specs.Entries.{checkEnds, reachedCheck, reachedWritten, reachedOut}
-use Rattle.routes.specs.declared.Between.{Between}
-use Rattle.routes.proofs.Box.{far-in}
+use Rattle.paths.specs.Offered.{reached}
+use Rattle.paths.specs.Entries.{checkEnds, reachedCheck, reachedWritten, reachedOut}
+use Rattle.paths.proofs.Reached.{reached-length}
+use Rattle.sweeps.specs.Box.{largest, between, far}
+use Rattle.sweeps.specs.declared.Between.{Between}
+use Rattle.sweeps.proofs.Box.{far-in}
 use Rattle.routes.proofs.Ends.{ends-granted}
-use Rattle.routes.proofs.Reached.{reached-length}
 use Rattle.text.specs.Text.{pieces}
 use Rattle.picture.specs.Picture.{symbolOf, symbolIn, symbols, Drawn, layerText, endsText, picture}
 

@@ -11,10 +11,10 @@ use Rattle.mesh.specs.Mesh.{InRange, nodes, placeOf}
 use Rattle.mesh.specs.Cells.{Map, mayPass}
 use Rattle.mesh.specs.declared.Sizes.{Sizes}
 use Rattle.mesh.specs.declared.Place.{Place}
-use Rattle.routes.specs.Offered.{reached}
-use Rattle.routes.specs.Box.{between, gone, rowRun, Held}
-use Rattle.routes.specs.declared.Run.{Run}
-use Rattle.routes.specs.declared.Between.{Between}
+use Rattle.paths.specs.Offered.{reached}
+use Rattle.sweeps.specs.Box.{between, gone, rowRun, Held}
+use Rattle.sweeps.specs.declared.Run.{Run}
+use Rattle.sweeps.specs.declared.Between.{Between}
 use Rattle.text.specs.Text.{ascii, told, pieces}
 
 -- the symbol of node k: `S` the start s, `E` the end e, `o` reached, `.` not reached, `#` not usable

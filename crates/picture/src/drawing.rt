@@ -2,9 +2,9 @@
 use crate::ends::say_ends;
 use crate::symbols::draw;
 use mesh::Sizes;
-use routes::Between;
-use routes::Run;
-use routes::boxes::between;
+use sweeps::Between;
+use sweeps::Run;
+use sweeps::boxes::between;
 use text::say;
 use text::tell;
 ghost use mathlib.Core.Path.{_≡_};
@@ -12,8 +12,8 @@ ghost use Prim.Native.Nat.{_+_, _≤_, _<_};
 ghost use lib.ListN.{length};
 ghost use Rattle.mesh.specs.Cells.{mapOf};
 ghost use Rattle.mesh.specs.declared.Answer.the-variants.{Done};
-ghost use Rattle.routes.specs.Entries.{checkEnds};
-ghost use Rattle.routes.specs.Box.{OnAxis};
+ghost use Rattle.paths.specs.Entries.{checkEnds};
+ghost use Rattle.sweeps.specs.Box.{OnAxis};
 ghost use Rattle.text.specs.Text.{pieces, Said};
 ghost use Rattle.picture.specs.Picture.{toldWide, Drawn, symbolAt, columnText, rowText, rowIn, layerHead, layerText, picture};
 

@@ -9,7 +9,7 @@ ghost use Rattle.mesh.specs.Mesh.{nodes};
 ghost use Rattle.mesh.specs.Cells.{mapOf};
 ghost use Rattle.mesh.specs.Fill.{Filled};
 ghost use Rattle.mesh.specs.declared.Answer.the-variants.{Done};
-ghost use Rattle.routes.specs.Entries.{checkEnds};
+ghost use Rattle.paths.specs.Entries.{checkEnds};
 ghost use Rattle.picture.specs.Picture.{symbolOf, symbols};
 
 // The symbol of node k, which is reached where seen is 1.

@@ -16,12 +16,12 @@ use Rattle.mesh.specs.declared.Refusal.{Refusal}
 use Rattle.mesh.specs.declared.Refusal.the-variants.{BadNumber, FaultyEnd, NoPath}
 use Rattle.mesh.specs.declared.Answer.{Answer}
 use Rattle.mesh.specs.declared.Answer.the-variants.{Done, Refused}
-use Rattle.routes.specs.Differences.{hops}
-use Rattle.routes.specs.Paths.{leads}
-use Rattle.routes.specs.Offered.{offered}
-use Rattle.routes.specs.Entries.{checkEnd, checkEnds, verdictCheck, verdictAnswer}
-use Rattle.routes.specs.Sweep.{Ends}
-use Rattle.routes.specs.declared.Verdict.the-variants.{Granted, NotGranted}
+use Rattle.paths.specs.Differences.{hops}
+use Rattle.paths.specs.Paths.{leads}
+use Rattle.paths.specs.Offered.{offered}
+use Rattle.paths.specs.Entries.{checkEnd, checkEnds, verdictCheck, verdictAnswer}
+use Rattle.paths.specs.declared.Verdict.the-variants.{Granted, NotGranted}
+use Rattle.sweeps.specs.Sweep.{Ends}
 
 module _ (S : Sizes) (cells : List ℕ) (s e : ℕ) where
   -- ---- the checks

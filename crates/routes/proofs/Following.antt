@@ -1,22 +1,22 @@
 -- The way through the bytes of a sweep stays in the box. Assumes nothing.
 use mathlib.Core.Bool.{Bool, true, false, cond}
 use mathlib.Core.List.{List}
-use Prim.Native.Nat.{ℕ, zero, suc, _-_}
+use Prim.Native.Nat.{ℕ, zero, suc}
 use native.Mathlib.Omega.{arith}
 use Rattle.mesh.specs.Tools.{one}
-use Rattle.mesh.specs.Mesh.{place}
+use Rattle.mesh.specs.Mesh.{X, Y, Z}
 use Rattle.mesh.specs.declared.Sizes.{Sizes}
 use Rattle.mesh.specs.declared.Place.{Place}
-use Rattle.routes.specs.Box.{Within}
-use Rattle.routes.specs.Sweep.{waysIn}
+use Rattle.sweeps.specs.Box.{Within}
+use Rattle.sweeps.specs.Sweep.{nearer, waysIn}
+use Rattle.sweeps.specs.declared.Ways.{Ways}
+use Rattle.sweeps.specs.declared.Between.{Between}
 use Rattle.routes.specs.Table.{towards, trail}
-use Rattle.routes.specs.declared.Ways.{Ways}
-use Rattle.routes.specs.declared.Between.{Between}
 
 pub towards-within : (g : Between) (w : Ways) (t : Place) → Within g t → Within g (towards w t)
 towards-within g w t i = split (one (w .x)) (one (w .y)) (one (w .z))
   where
-    split : (a b c : Bool) → Within g (cond a (place (t .x - 1) (t .y) (t .z)) (cond b (place (t .x) (t .y - 1) (t .z)) (cond c (place (t .x) (t .y) (t .z - 1)) t)))
+    split : (a b c : Bool) → Within g (cond a (nearer t X) (cond b (nearer t Y) (cond c (nearer t Z) t)))
     split true b c = record { x-le = omega (arith, i .x-le); y-le = i .y-le; z-le = i .z-le }
     split false true c = record { x-le = i .x-le; y-le = omega (arith, i .y-le); z-le = i .z-le }
     split false false true = record { x-le = i .x-le; y-le = i .y-le; z-le = omega (arith, i .z-le) }

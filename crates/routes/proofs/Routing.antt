@@ -18,14 +18,14 @@ use Rattle.mesh.specs.declared.Refusal.the-variants.{NoRoom, NoPath}
 use Rattle.mesh.specs.declared.Answer.the-variants.{Done, Refused}
 use Rattle.mesh.specs.declared.Numbered.{Numbered}
 use Rattle.mesh.specs.declared.Numbered.the-variants.{Number, NotNumbered}
-use Rattle.routes.specs.Differences.{hops}
-use Rattle.routes.specs.Paths.{leads}
-use Rattle.routes.specs.Offered.{route}
-use Rattle.routes.specs.Entries.{checkEnds, verdictCheck, routeCheck, routeAnswer, routeWritten, routeOut}
-use Rattle.routes.specs.Box.{between, reach}
-use Rattle.routes.specs.Sweep.{Spread}
+use Rattle.paths.specs.Differences.{hops}
+use Rattle.paths.specs.Paths.{leads}
+use Rattle.paths.specs.Offered.{route}
+use Rattle.paths.specs.Entries.{checkEnds, verdictCheck, routeCheck, routeAnswer, routeWritten, routeOut}
+use Rattle.paths.proofs.Offered.{route-length}
+use Rattle.sweeps.specs.Box.{between, reach}
+use Rattle.sweeps.specs.Sweep.{Spread}
 use Rattle.routes.specs.Table.{trail, Routed}
-use Rattle.routes.proofs.Offered.{route-length}
 use Rattle.routes.proofs.Trails.{route-trail}
 
 module _ (m : Map) (p e : Place) (old : List ℕ) where

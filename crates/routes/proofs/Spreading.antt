@@ -22,21 +22,21 @@ use Rattle.mesh.specs.declared.Refusal.{Refusal}
 use Rattle.mesh.specs.declared.Refusal.the-variants.{NoRoom}
 use Rattle.mesh.specs.declared.Answer.the-variants.{Done, Refused}
 use Rattle.mesh.specs.declared.Numbered.the-variants.{Number, NotNumbered}
-use Rattle.routes.specs.Differences.{hops}
-use Rattle.routes.specs.Paths.{leads}
-use Rattle.routes.specs.Offered.{reachedAt, reached, reachedCount}
-use Rattle.routes.specs.Entries.{checkEnds, reachedCheck, reachedAnswer, reachedWritten, reachedOut}
-use Rattle.routes.specs.Box.{between, reach, far, Within}
-use Rattle.routes.specs.Sweep.{entry, Spread, waysOf, Bits}
-use Rattle.routes.proofs.Differences.{hops-is}
-use Rattle.routes.proofs.Box.{held, reach-in}
-use Rattle.routes.proofs.Runs.{reach-far}
-use Rattle.routes.proofs.Reached.{reached-length, reached-byte}
-use Rattle.routes.proofs.Forward.{behind, boxed, behind-is, from-start, end-entry}
-use Rattle.routes.proofs.Layers.{spread-safe}
+use Rattle.paths.specs.Differences.{hops}
+use Rattle.paths.specs.Paths.{leads}
+use Rattle.paths.specs.Offered.{reachedAt, reached, reachedCount}
+use Rattle.paths.specs.Entries.{checkEnds, reachedCheck, reachedAnswer, reachedWritten, reachedOut}
+use Rattle.paths.proofs.Differences.{hops-is}
+use Rattle.paths.proofs.Reached.{reached-length, reached-byte}
+use Rattle.sweeps.specs.Box.{between, reach, far, Within}
+use Rattle.sweeps.specs.Sweep.{entry, Spread, waysOf, Bits}
+use Rattle.sweeps.proofs.Box.{held, reach-in}
+use Rattle.sweeps.proofs.Runs.{reach-far}
+use Rattle.sweeps.proofs.Forward.{behind, boxed, behind-is, from-start, end-entry}
+use Rattle.sweeps.proofs.Layers.{spread-safe}
+use Rattle.sweeps.specs.declared.Ways.{Ways}
+use Rattle.sweeps.specs.declared.Between.{Between}
 use Rattle.routes.proofs.Trails.{summed, far-zero}
-use Rattle.routes.specs.declared.Ways.{Ways}
-use Rattle.routes.specs.declared.Between.{Between}
 
 module _ (m : Map) (s e : Place) (s-in : Inside (m .sizes) s) (e-in : Inside (m .sizes) e) (ends : T (mayEnd (cellAt m e))) where
   abbrev g : Between

@@ -9,7 +9,7 @@ use native.Mathlib.Omega.{arith}
 use lib.ListN.{getD}
 use lib.Dec.{T, ltb, eqb, ltb→lt}
 use Rattle.mesh.specs.Tools.{bit}
-use Rattle.mesh.specs.Mesh.{Axis, X, Y, Z, on, place, number, Inside}
+use Rattle.mesh.specs.Mesh.{Axis, X, Y, Z, on, number, Inside}
 use Rattle.mesh.specs.Steps.{next, along}
 use Rattle.mesh.specs.Cells.{Map, cellAt, mayEnd}
 use Rattle.mesh.proofs.Tests.{T-and, T-or, T-eq, bool-ext}
@@ -17,21 +17,21 @@ use Rattle.mesh.proofs.Bits.{bit-one}
 use Rattle.mesh.proofs.Steps.{put, dir-lt, next-in}
 use Rattle.mesh.specs.declared.Place.{Place}
 use Rattle.mesh.specs.declared.Next.the-variants.{At}
-use Rattle.routes.specs.Differences.{hops, same}
-use Rattle.routes.specs.Paths.{leads}
-use Rattle.routes.specs.Offered.{offers, lowest, routeWithin, route}
-use Rattle.routes.specs.Box.{between, reach, far, Within}
-use Rattle.routes.specs.Sweep.{entry, Spread, waysIn, waysOf}
+use Rattle.paths.specs.Differences.{hops, same}
+use Rattle.paths.specs.Paths.{leads}
+use Rattle.paths.specs.Offered.{offers, lowest, routeWithin, route}
+use Rattle.paths.proofs.Differences.{at-eq, hops-zero, hops-is, same-iff, size-is, place-eq}
+use Rattle.paths.proofs.Paths.{leads-iff, hop-lowers}
+use Rattle.paths.proofs.Offered.{lowest-is, least-one, offers-iff}
+use Rattle.sweeps.specs.Box.{between, reach, far, Within}
+use Rattle.sweeps.specs.Sweep.{wayIn, entry, waysOf, Spread, waysIn}
+use Rattle.sweeps.proofs.Runs.{runOn, origin, reach-first, reach-far}
+use Rattle.sweeps.proofs.Backward.{ahead, node-in, step-back, from-end, leads-entry, offers-back, offers-on}
+use Rattle.sweeps.proofs.Entered.{ways-in}
+use Rattle.sweeps.specs.declared.Ways.{Ways}
+use Rattle.sweeps.specs.declared.Between.{Between}
 use Rattle.routes.specs.Table.{towards, nearest, trail}
-use Rattle.routes.proofs.Differences.{at-eq, hops-zero, hops-is, same-iff, size-is, place-eq}
-use Rattle.routes.proofs.Paths.{leads-iff, hop-lowers}
-use Rattle.routes.proofs.Offered.{lowest-is, least-one, offers-iff}
-use Rattle.routes.proofs.Runs.{runOn, origin, reach-first, reach-far}
-use Rattle.routes.proofs.Backward.{ahead, node-in, step-back, from-end, leads-entry, offers-back, offers-on}
-use Rattle.routes.proofs.Entered.{ways-in}
 use Rattle.routes.proofs.Following.{towards-within}
-use Rattle.routes.specs.declared.Ways.{Ways}
-use Rattle.routes.specs.declared.Between.{Between}
 
 -- ---- the lowest of six
 
@@ -61,7 +61,7 @@ none-past f a false e e′ h = one-more f (along a true) e′ (rw (up a) (one-mo
 
 -- three ways, and whether there is one
 pub summed : (w : Ways) (seen : Place → Bool) (t : Place) → w ≡ waysOf seen t → entry seen t ≡ not (eqb (w .x + w .y + w .z) 0)
-summed w seen t e = rw e (split (ltb 0 (t .x) && seen (place (t .x - 1) (t .y) (t .z))) (ltb 0 (t .y) && seen (place (t .x) (t .y - 1) (t .z))) (ltb 0 (t .z) && seen (place (t .x) (t .y) (t .z - 1))))
+summed w seen t e = rw e (split (wayIn seen t X) (wayIn seen t Y) (wayIn seen t Z))
   where
     split : (x y z : Bool) → (x || y || z) ≡ not (eqb (bit x + bit y + bit z) 0)
     split true true true = refl

@@ -1,31 +1,29 @@
 -- The table of a route: the layers of a sweep from the end, and the way through them. No promise is stated in these words: that the way is
--- the route is proved (proofs/Following). Assumes nothing.
+-- the route is proved (proofs/Trails). Assumes nothing.
 use mathlib.Core.Bool.{cond}
 use mathlib.Core.List.{List, _++_}
 use mathlib.Core.Path.{_≡_}
-use Prim.Native.Nat.{ℕ, zero, suc, _+_, _-_}
+use Prim.Native.Nat.{ℕ, zero, suc, _+_}
 use lib.ListN.{length, drop}
 use Rattle.mesh.specs.Tools.{one}
-use Rattle.mesh.specs.Mesh.{place}
+use Rattle.mesh.specs.Mesh.{X, Y, Z}
 use Rattle.mesh.specs.Cells.{Map}
 use Rattle.mesh.specs.Answers.{granted, numbered, _andThen_, checkRoom}
 use Rattle.mesh.specs.declared.Sizes.{Sizes}
 use Rattle.mesh.specs.declared.Place.{Place}
 use Rattle.mesh.specs.declared.Answer.{Answer}
 use Rattle.mesh.specs.declared.Numbered.{Numbered}
-use Rattle.routes.specs.Differences.{hops}
-use Rattle.routes.specs.Offered.{route}
-use Rattle.routes.specs.Entries.{checkPath}
-use Rattle.routes.specs.Box.{far}
-use Rattle.routes.specs.Sweep.{waysIn}
-use Rattle.routes.specs.declared.Ways.{Ways}
-use Rattle.routes.specs.declared.Between.{Between}
+use Rattle.paths.specs.Differences.{hops}
+use Rattle.paths.specs.Offered.{route}
+use Rattle.paths.specs.Entries.{checkPath}
+use Rattle.sweeps.specs.Box.{far}
+use Rattle.sweeps.specs.Sweep.{nearer, waysIn}
+use Rattle.sweeps.specs.declared.Ways.{Ways}
+use Rattle.sweeps.specs.declared.Between.{Between}
 
 -- the node one step nearer: the first of X, Y and Z
 abbrev pub towards : Ways → Place → Place
-towards w t =
-    cond (one (w .x)) (place (t .x - 1) (t .y) (t .z))
-    (cond (one (w .y)) (place (t .x) (t .y - 1) (t .z)) (cond (one (w .z)) (place (t .x) (t .y) (t .z - 1)) t))
+towards w t = cond (one (w .x)) (nearer t X) (cond (one (w .y)) (nearer t Y) (cond (one (w .z)) (nearer t Z) t))
 
 abbrev pub nearest : Sizes → Between → List ℕ → Place → Place
 nearest S g table t = towards (waysIn S g table t) t

@@ -1,8 +1,5 @@
 // The public calls on routes. Each takes every input.
-use crate::Verdict;
 use crate::follow::write_route;
-use crate::offers::offered;
-use crate::signed::hops;
 use crate::spread::total;
 use crate::spread::write_reached;
 use mesh::Answer;
@@ -11,9 +8,12 @@ use mesh::Refusal;
 use mesh::Sizes;
 use mesh::cells::check_map;
 use mesh::cells::may_end;
+use paths::Verdict;
+use sweeps::offers::offered;
+use sweeps::signed::hops;
 ghost use mathlib.Core.Path.{_≡_};
 ghost use lib.ListN.{length};
-ghost use Rattle.routes.specs.Entries.{checkEnds, verdictAnswer, routeAnswer, routeOut, reachedAnswer, reachedOut};
+ghost use Rattle.paths.specs.Entries.{checkEnds, verdictAnswer, routeAnswer, routeOut, reachedAnswer, reachedOut};
 
 // Refusals 1, 2, 4, 5 and 9.
 fn check_ends(s: Sizes, cells: &[u8], start: usize, end: usize) -> Answer

@@ -1,22 +1,22 @@
 // The route: a sweep from the end leaves a byte for each node, and the way from the start goes through them.
-use crate::Between;
-use crate::boxes::between;
-use crate::offers::leads_on;
-use crate::signed::hops;
 use crate::spread::spread;
-use crate::sweep::ways_in;
 use mesh::Numbered;
 use mesh::Place;
 use mesh::Refusal;
 use mesh::Sizes;
+use sweeps::Between;
+use sweeps::boxes::between;
+use sweeps::offers::leads_on;
+use sweeps::signed::hops;
+use sweeps::sweep::ways_in;
 ghost use mathlib.Core.Path.{_≡_};
 ghost use Prim.Native.Nat.{_≤_};
 ghost use lib.ListN.{length};
 ghost use Rattle.mesh.specs.Mesh.{number};
 ghost use Rattle.mesh.specs.Cells.{mapOf};
 ghost use Rattle.mesh.specs.Fill.{Filled};
-ghost use Rattle.routes.specs.Box.{largest, reach, Within};
-ghost use Rattle.routes.specs.Sweep.{Ends, Room, Blank};
+ghost use Rattle.sweeps.specs.Box.{largest, reach, Within};
+ghost use Rattle.sweeps.specs.Sweep.{Ends, Room, Blank};
 ghost use Rattle.routes.specs.Table.{nearest, trail, Routed};
 
 // Nothing is seen yet.

@@ -1,13 +1,13 @@
 // A sweep with a byte for each node, and what is reached: such a sweep from the start, in the bytes that are lent.
-use crate::Between;
-use crate::Ways;
-use crate::boxes::between;
-use crate::offers::leads_on;
-use crate::signed::hops;
-use crate::sweep::sweep_layer;
-use crate::sweep::ways_in;
 use mesh::Place;
 use mesh::Sizes;
+use sweeps::Between;
+use sweeps::Ways;
+use sweeps::boxes::between;
+use sweeps::offers::leads_on;
+use sweeps::signed::hops;
+use sweeps::sweep::sweep_layer;
+use sweeps::sweep::ways_in;
 ghost use mathlib.Core.Path.{_≡_};
 ghost use mathlib.Core.List.{_++_};
 ghost use Prim.Native.Nat.{_+_, _≤_};
@@ -16,9 +16,9 @@ ghost use Rattle.mesh.specs.Tools.{sum};
 ghost use Rattle.mesh.specs.Mesh.{nodes};
 ghost use Rattle.mesh.specs.Cells.{mapOf};
 ghost use Rattle.mesh.specs.Fill.{Filled};
-ghost use Rattle.routes.specs.Offered.{reached};
-ghost use Rattle.routes.specs.Box.{far};
-ghost use Rattle.routes.specs.Sweep.{Ready, Ends, WaysTo, Blank, Spread, Bits};
+ghost use Rattle.paths.specs.Offered.{reached};
+ghost use Rattle.sweeps.specs.Box.{far};
+ghost use Rattle.sweeps.specs.Sweep.{Ready, Ends, WaysTo, Blank, Spread, Bits};
 
 // Every layer of a box, each at its own nodes, and the ways into the far corner.
 pub fn spread(s: Sizes, cells: &[u8], g: Between, bytes: &mut [u8]) -> Ways

@@ -7,7 +7,7 @@ use Rattle.components.specs.Lists.{anyOf, keep, least, greatest}
 use Rattle.components.specs.Touch.{unsafeNodes, touch, grown, component}
 use Rattle.components.specs.Components.{lowest, lowestNodes, numberAmong, tableOf, recordOf, recordsOf, howMany}
 use Rattle.components.specs.Entry.{componentsCheck, componentsAnswer, tableWritten, rowWritten}
-use Rattle.routes.proofs.Computed.{computed as routes}
+use Rattle.paths.proofs.Computed.{computed as routes}
 use Rattle.talk.proofs.Computed.{computed as talk}
 use Rattle.samples.specs.Questions.{reply}
 use Rattle.samples.specs.Rows.{Row, rows}

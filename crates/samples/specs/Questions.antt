@@ -10,8 +10,8 @@ use Rattle.mesh.specs.declared.Numbered.the-variants.{Number, NotNumbered}
 use Rattle.marks.specs.Entry.{marksAnswer, marksOut}
 use Rattle.components.specs.Entry.{componentsAnswer, componentsRow}
 use Rattle.components.specs.declared.Component.{Component}
-use Rattle.routes.specs.Entries.{verdictAnswer, verdictNo, verdictHops, verdictOffered, routeAnswer, routeOut}
-use Rattle.routes.specs.declared.Verdict.{Verdict}
+use Rattle.paths.specs.Entries.{verdictAnswer, verdictNo, verdictHops, verdictOffered, routeAnswer, routeOut}
+use Rattle.paths.specs.declared.Verdict.{Verdict}
 use Rattle.talk.specs.State.{own}
 use Rattle.talk.specs.Entries.{freshOut, hearAnswer, hearOut, outstandingAnswer}
 use Rattle.talk.specs.Rounds.{Call, run}

@@ -8,7 +8,7 @@ use denote.Ref.{now}
 use lib.ListN.{getD, replicate}
 use Rattle.mesh.specs.Mesh.{placeOf}
 use Rattle.mesh.specs.Cells.{mapOf}
-use Rattle.routes.specs.Offered.{route}
+use Rattle.paths.specs.Offered.{route}
 use Rattle.text.proofs.Saying.{said-as}
 use Rattle.audit.proofs.Judged.{short, route-at, granted-same}
 use Rattle.audit.proofs.lines.granted.Statement.{statement}

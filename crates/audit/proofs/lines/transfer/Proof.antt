@@ -6,8 +6,8 @@ use native.Mathlib.Omega.{arith}
 use borrow.Author.Needs.{needs}
 use denote.Ref.{now}
 use Rattle.mesh.specs.declared.Sizes.{Sizes}
-use Rattle.routes.specs.Entries.{verdictAnswer}
-use Rattle.routes.specs.declared.Verdict.{Verdict}
+use Rattle.paths.specs.Entries.{verdictAnswer}
+use Rattle.paths.specs.declared.Verdict.{Verdict}
 use Rattle.text.specs.Text.{ascii, told}
 use Rattle.text.proofs.Saying.{said-as, said-then}
 use Rattle.audit.specs.Audit.{verdictText, transferText}

@@ -9,16 +9,16 @@ use Rattle.mesh.specs.Mesh.{placeOf, Inside}
 use Rattle.mesh.specs.Cells.{Map, mapOf}
 use Rattle.mesh.proofs.Tests.{bool-ext, holds-true}
 use Rattle.mesh.specs.declared.Place.{Place}
-use Rattle.routes.specs.Differences.{hops}
-use Rattle.routes.specs.Paths.{leads}
-use Rattle.routes.specs.Offered.{offered}
-use Rattle.routes.specs.Entries.{verdictAnswer}
-use Rattle.routes.proofs.Box.{in-largest}
-use Rattle.routes.proofs.Differences.{hops-zero}
-use Rattle.routes.proofs.Offered.{offered-none, offered-leads}
-use Rattle.routes.proofs.Reached.{start-reached}
+use Rattle.paths.specs.Differences.{hops}
+use Rattle.paths.specs.Paths.{leads}
+use Rattle.paths.specs.Offered.{offered}
+use Rattle.paths.specs.Entries.{verdictAnswer}
+use Rattle.paths.proofs.Differences.{hops-zero}
+use Rattle.paths.proofs.Offered.{offered-none, offered-leads}
+use Rattle.paths.proofs.Reached.{start-reached}
+use Rattle.paths.specs.declared.Verdict.the-variants.{Granted}
+use Rattle.sweeps.proofs.Box.{in-largest}
 use Rattle.routes.proofs.Ends.{Past, past-ends, verdict-refused, verdict-10, verdict-0}
-use Rattle.routes.specs.declared.Verdict.the-variants.{Granted}
 use Rattle.routes.proofs.entries.verdict.Statement.{statement}
 use Rattle.routes.proofs.entries.verdict.Tie as tie
 

@@ -12,10 +12,10 @@ use Rattle.mesh.proofs.Fill.{fill-none, fill-more}
 use Rattle.mesh.proofs.Numbers.{nodes-le}
 use Rattle.mesh.specs.declared.Sizes.{Sizes}
 use Rattle.mesh.specs.declared.Place.{Place}
-use Rattle.routes.specs.Box.{reach, Within}
+use Rattle.sweeps.specs.Box.{reach, Within}
+use Rattle.sweeps.specs.declared.Between.{Between}
 use Rattle.routes.specs.Table.{nearest, trail}
 use Rattle.routes.proofs.Following.{trail-within}
-use Rattle.routes.specs.declared.Between.{Between}
 use Rattle.routes.proofs.follow.follow.Statement.{statement}
 use Rattle.routes.proofs.follow.follow.Tie as tie
 

@@ -4,10 +4,10 @@ use Prim.Native.Nat.{_≤_}
 use borrow.Author.Needs.{needs}
 use borrow.Author.Tests.{eq-eqb, ne-eqb}
 use denote.Ref.{now}
-use Rattle.routes.specs.Sweep.{waysIn}
+use Rattle.sweeps.specs.Sweep.{waysIn}
+use Rattle.sweeps.proofs.Entered.{entered-left}
+use Rattle.sweeps.specs.declared.Ways.{Ways}
 use Rattle.routes.specs.Table.{towards}
-use Rattle.routes.proofs.Entered.{entered-left}
-use Rattle.routes.specs.declared.Ways.{Ways}
 use Rattle.routes.proofs.follow.step_nearer.Statement.{statement}
 use Rattle.routes.proofs.follow.step_nearer.Tie as tie
 

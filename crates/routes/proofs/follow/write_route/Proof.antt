@@ -16,19 +16,19 @@ use Rattle.mesh.specs.Fill.{Filled}
 use Rattle.mesh.proofs.Tests.{holds-true}
 use Rattle.mesh.proofs.Numbers.{nodes-le}
 use Rattle.mesh.specs.declared.Sizes.{Sizes}
-use Rattle.routes.specs.Differences.{hops}
-use Rattle.routes.specs.Paths.{leads}
-use Rattle.routes.specs.Box.{between, reach, far}
-use Rattle.routes.specs.Sweep.{Ready, Spread, WaysTo, waysOf}
+use Rattle.paths.specs.Differences.{hops}
+use Rattle.paths.specs.Paths.{leads}
+use Rattle.sweeps.specs.Box.{between, reach, far}
+use Rattle.sweeps.specs.Sweep.{Ready, Spread, WaysTo, waysOf}
+use Rattle.sweeps.proofs.Box.{held}
+use Rattle.sweeps.proofs.Layers.{room-of}
+use Rattle.sweeps.proofs.Entered.{ways-le}
+use Rattle.sweeps.proofs.Backward.{ahead, from-end}
+use Rattle.sweeps.specs.declared.Ways.{Ways}
+use Rattle.sweeps.specs.declared.Between.{Between}
 use Rattle.routes.specs.Table.{trail}
-use Rattle.routes.proofs.Box.{held}
-use Rattle.routes.proofs.Layers.{room-of}
-use Rattle.routes.proofs.Entered.{ways-le}
-use Rattle.routes.proofs.Backward.{ahead, from-end}
 use Rattle.routes.proofs.Trails.{granted-is}
 use Rattle.routes.proofs.Routing.{routed-10, routed-3, routed-0, route-written}
-use Rattle.routes.specs.declared.Ways.{Ways}
-use Rattle.routes.specs.declared.Between.{Between}
 use Rattle.routes.proofs.follow.write_route.Statement.{statement}
 use Rattle.routes.proofs.follow.write_route.Tie as tie
 

@@ -11,11 +11,11 @@ use Rattle.mesh.specs.Tools.{bit}
 use Rattle.mesh.specs.Mesh.{Inside, nodes}
 use Rattle.mesh.specs.Cells.{mapOf}
 use Rattle.mesh.proofs.Bits.{bit-le}
-use Rattle.routes.specs.Box.{largest, far}
-use Rattle.routes.specs.Sweep.{Spread}
-use Rattle.routes.proofs.Box.{far-in}
-use Rattle.routes.proofs.Layers.{room-of, spread-none, spread-laid, spread-more, spread-seeds, spread-from}
-use Rattle.routes.proofs.Entered.{ways-in}
+use Rattle.sweeps.specs.Box.{largest, far}
+use Rattle.sweeps.specs.Sweep.{Spread}
+use Rattle.sweeps.proofs.Box.{far-in}
+use Rattle.sweeps.proofs.Layers.{room-of, spread-none, spread-laid, spread-more, spread-seeds, spread-from}
+use Rattle.sweeps.proofs.Entered.{ways-in}
 use Rattle.routes.proofs.spread.spread.Statement.{statement}
 use Rattle.routes.proofs.spread.spread.Tie as tie
 

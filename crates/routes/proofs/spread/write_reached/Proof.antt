@@ -12,16 +12,16 @@ use Rattle.mesh.specs.Mesh.{nodes}
 use Rattle.mesh.specs.Cells.{Map, mapOf}
 use Rattle.mesh.specs.Fill.{Filled}
 use Rattle.mesh.specs.declared.Place.{Place}
-use Rattle.routes.specs.Differences.{hops}
-use Rattle.routes.specs.Paths.{leads}
-use Rattle.routes.specs.Box.{between, far}
-use Rattle.routes.specs.Sweep.{Spread, waysOf, WaysTo}
-use Rattle.routes.proofs.Box.{held}
-use Rattle.routes.proofs.Entered.{ways-le}
-use Rattle.routes.proofs.Forward.{behind, from-start}
+use Rattle.paths.specs.Differences.{hops}
+use Rattle.paths.specs.Paths.{leads}
+use Rattle.sweeps.specs.Box.{between, far}
+use Rattle.sweeps.specs.Sweep.{Spread, waysOf, WaysTo}
+use Rattle.sweeps.proofs.Box.{held}
+use Rattle.sweeps.proofs.Entered.{ways-le}
+use Rattle.sweeps.proofs.Forward.{behind, from-start}
+use Rattle.sweeps.specs.declared.Ways.{Ways}
+use Rattle.sweeps.specs.declared.Between.{Between}
 use Rattle.routes.proofs.Spreading.{end-ways, reached-written}
-use Rattle.routes.specs.declared.Ways.{Ways}
-use Rattle.routes.specs.declared.Between.{Between}
 use Rattle.routes.proofs.spread.write_reached.Statement.{statement}
 use Rattle.routes.proofs.spread.write_reached.Tie as tie
 

@@ -1,0 +1,13 @@
+pub mod Differences
+pub mod Paths
+pub mod Walks
+pub mod Offered
+pub mod Reached
+pub mod Direct
+pub mod Verdicts
+pub mod Promise
+pub mod Computed
+pub mod Cases
+pub mod Impostors
+pub mod Law
+pub mod Premises

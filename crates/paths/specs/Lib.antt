@@ -1,0 +1,5 @@
+pub mod Differences
+pub mod Paths
+pub mod Offered
+pub mod Entries
+pub mod Promise

@@ -1,0 +1,9 @@
+pub mod Box
+pub mod Runs
+pub mod Rows
+pub mod Waves
+pub mod Layers
+pub mod Entered
+pub mod Backward
+pub mod Forward
+pub mod Flags

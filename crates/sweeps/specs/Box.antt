@@ -1,0 +1,55 @@
+-- The nodes between two places, in steps from the first towards the second, so that all eight ways to run are one case. The functions'
+-- inner contracts are stated in these words; no promise is. Assumes nothing.
+use mathlib.Core.Path.{_≡_}
+use mathlib.Core.Bool.{true, false, cond}
+use Prim.Native.Nat.{ℕ, _+_, _-_, _<_, _≤_}
+use lib.IntN.{natAbs, subℕ}
+use lib.Dec.{ltb}
+use Rattle.mesh.specs.Mesh.{sizes, place, number}
+use Rattle.mesh.specs.declared.Sizes.{Sizes}
+use Rattle.mesh.specs.declared.Place.{Place}
+use Rattle.sweeps.specs.declared.Run.{Run}
+use Rattle.sweeps.specs.declared.Between.{Between}
+
+-- every mesh fits into it
+abbrev pub largest : Sizes
+largest = sizes 16 16 16
+
+-- from the coordinate c to the coordinate b; from u to v
+abbrev pub run : ℕ → ℕ → Run
+run c b = record { from = c; steps = natAbs (subℕ b c); down = ltb b c }
+
+abbrev pub between : Place → Place → Between
+between u v = record { x = run (u .x) (v .x); y = run (u .y) (v .y); z = run (u .z) (v .z) }
+
+-- the coordinate after i steps; the place after t .x, t .y and t .z steps
+abbrev pub gone : Run → ℕ → ℕ
+gone r i = cond (r .down) (r .from - i) (r .from + i)
+
+abbrev pub reach : Between → Place → Place
+reach g t = place (gone (g .x) (t .x)) (gone (g .y) (t .y)) (gone (g .z) (t .z))
+
+-- the opposite corner, in steps
+abbrev pub far : Between → Place
+far g = place (g .x .steps) (g .y .steps) (g .z .steps)
+
+-- no more steps than the box has
+pub record Within (g : Between) (t : Place) : Type 0 where
+  pub x-le : t .x ≤ g .x .steps
+  pub y-le : t .y ≤ g .y .steps
+  pub z-le : t .z ≤ g .z .steps
+
+-- the nodes of row b of layer c, as a run of numbers
+abbrev pub rowRun : Sizes → Between → ℕ → ℕ → Run
+rowRun S g b c = record { from = number S (reach g (place 0 b c)); steps = g .x .steps; down = g .x .down }
+
+-- a run that stays on an axis of n; a box that stays in the mesh
+pub record OnAxis (r : Run) (n : ℕ) : Type 0 where
+  pub starts : r .from < n
+  pub low : r .down ≡ true → r .steps ≤ r .from
+  pub high : r .down ≡ false → r .from + r .steps < n
+
+pub record Held (S : Sizes) (g : Between) : Type 0 where
+  pub x-on : OnAxis (g .x) (S .w)
+  pub y-on : OnAxis (g .y) (S .h)
+  pub z-on : OnAxis (g .z) (S .d)

@@ -1,0 +1,180 @@
+-- The sweep over a box, layer by layer from its first corner: what the functions of src/ leave in their bytes. No promise is stated in these
+-- words: what the bytes mean for paths is proved (proofs/Backward, proofs/Forward). Assumes nothing.
+use mathlib.Core.Path.{_≡_}
+use mathlib.Core.Bool.{Bool, true, false, cond, _&&_, _||_}
+use mathlib.Core.List.{List}
+use Prim.Native.Nat.{ℕ, zero, suc, _+_, _-_, _*_, _^_, _<_, _≤_}
+use lib.ListN.{length, getD, set, replicate}
+use lib.Bits.{bitAnd, bitOr}
+use lib.Dec.{T, ltb, eqb}
+use Rattle.mesh.specs.Tools.{bit}
+use Rattle.mesh.specs.Mesh.{Axis, X, Y, Z, on, InRange, Inside, place, nodes, number}
+use Rattle.mesh.specs.Cells.{Map, mapOf, cellAt, mayPass, mayEnd}
+use Rattle.mesh.specs.declared.Sizes.{Sizes}
+use Rattle.mesh.specs.declared.Place.{Place}
+use Rattle.paths.specs.declared.Wanted.{Wanted}
+use Rattle.paths.specs.declared.Wanted.the-variants.{Way, Level}
+use Rattle.sweeps.specs.Box.{gone, reach, Within, OnAxis, Held}
+use Rattle.sweeps.specs.declared.Ways.{Ways}
+use Rattle.sweeps.specs.declared.Run.{Run}
+use Rattle.sweeps.specs.declared.Between.{Between}
+
+-- ---- what is seen
+
+-- one step nearer to the corner on an axis; and whether the way in from there is seen
+abbrev pub nearer : Place → Axis → Place
+nearer t X = place (t .x - 1) (t .y) (t .z)
+nearer t Y = place (t .x) (t .y - 1) (t .z)
+nearer t Z = place (t .x) (t .y) (t .z - 1)
+
+abbrev pub wayIn : (Place → Bool) → Place → Axis → Bool
+wayIn seen t a = ltb 0 (on t a) && seen (nearer t a)
+
+-- entered from one step nearer, on some axis; and on which
+abbrev pub entry : (Place → Bool) → Place → Bool
+entry seen t = wayIn seen t X || wayIn seen t Y || wayIn seen t Z
+
+abbrev pub waysOf : (Place → Bool) → Place → Ways
+waysOf seen t = record { x = bit (wayIn seen t X); y = bit (wayIn seen t Y); z = bit (wayIn seen t Z) }
+
+-- The corner is seen, and any other node of the box if it may be passed and is entered from a seen one.
+pub record Seen (m : Map) (g : Between) (seen : Place → Bool) : Type 0 where
+  pub corner : seen (place 0 0 0) ≡ true
+  pub later : (t : Place) → Within g t → (t ≡ place 0 0 0 → ⊥) → seen t ≡ mayPass (cellAt m (reach g t)) && entry seen t
+
+-- ---- bytes
+
+-- the byte of the node a and b steps away, in layer k: it stands at the node's number
+abbrev pub spot : Sizes → Between → ℕ → ℕ → ℕ → ℕ
+spot S g a b k = number S (reach g (place a b k))
+
+-- the box as one layer, each layer of which goes over the one before
+abbrev pub flat : Between → Between
+flat g = record { x = g .x; y = g .y; z = record { from = 0; steps = 0; down = false } }
+
+-- the layer before layer c: before the first only the corner is seen
+abbrev pub prior : (Place → Bool) → ℕ → ℕ → ℕ → Bool
+prior seen zero a b = eqb a 0 && eqb b 0
+prior seen (suc c) a b = seen (place a b c)
+
+-- ---- contracts
+
+-- a map that was checked, and a box in it
+pub record Ready (S : Sizes) (cells : List ℕ) (g : Between) : Type 0 where
+  pub sized : InRange S
+  pub whole : length cells ≡ nodes S
+  pub held : Held S g
+
+-- a map that was checked, and the two ends of a route in it
+pub record Ends (S : Sizes) (cells : List ℕ) (p e : Place) : Type 0 where
+  pub sized : InRange S
+  pub whole : length cells ≡ nodes S
+  pub start-in : Inside S p
+  pub end-in : Inside S e
+  pub end-may : T (mayEnd (cellAt (mapOf S cells) e))
+
+-- bytes 0 or 1, joined without a branch
+abbrev pub joined : Bool → ℕ → ℕ → ℕ → ℕ
+joined ok y z x = bitAnd (bit ok) (bitOr (bitOr y z) x)
+
+-- the run beside r that begins at y
+abbrev pub beside : Run → ℕ → Run
+beside r y = record { from = y; steps = r .steps; down = r .down }
+
+-- row r may be written while the row that begins at y is read: no byte is read after it was written
+pub record Beside (bytes : List ℕ) (r : Run) (y : ℕ) : Type 0 where
+  pub on : OnAxis (beside r y) (length bytes)
+  pub small : y < 4096
+  pub fresh : (i j : ℕ) → i ≤ r .steps → j < i → gone (beside r y) i ≡ gone r j → ⊥
+
+-- row r of the bytes, with the rows that begin at y and z; its cells begin `base` further on
+pub record Rows (cells bytes : List ℕ) (r : Run) (base y z : ℕ) : Type 0 where
+  pub on : OnAxis r (length bytes)
+  pub small : OnAxis r 4096
+  pub celled : (a : ℕ) → a ≤ r .steps → base + gone r a < length cells
+  pub y-row : Beside bytes r y
+  pub z-row : Beside bytes r z
+
+-- the byte before place a: `from` itself where the row starts
+abbrev pub leading : List ℕ → Run → ℕ → ℕ → ℕ
+leading bytes r from a = cond (ltb from a) (getD bytes (gone r (a - 1)) 0) from
+
+-- row r done from place `from` up to n
+pub record Row (cells old new : List ℕ) (r : Run) (base y z from n : ℕ) : Type 0 where
+  pub done : (a : ℕ) → from ≤ a → a < n → getD new (gone r a) 0
+      ≡ joined (mayPass (getD cells (base + gone r a) 0)) (getD old (gone (beside r y) a) 0) (getD old (gone (beside r z) a) 0) (leading new r from a)
+  pub kept : (i : ℕ) → ((a : ℕ) → from ≤ a → a < n → i ≡ gone r a → ⊥) → getD new i 0 ≡ getD old i 0
+  pub size : length new ≡ length old
+
+-- bytes with room for a box, and layer k of them, after layer `behind`
+pub record Room (S : Sizes) (g : Between) (bytes : List ℕ) : Type 0 where
+  pub sized : InRange S
+  pub held : Held S g
+  pub fits : (t : Place) → Within g t → number S (reach g t) < length bytes
+
+pub record Laid (S : Sizes) (cells bytes : List ℕ) (g : Between) (base k behind : ℕ) : Type 0 where
+  pub room : Room S g bytes
+  pub here : k ≤ g .z .steps
+  pub back : behind ≤ g .z .steps
+  pub celled : (a b : ℕ) → a ≤ g .x .steps → b ≤ g .y .steps → base + spot S g a b k < length cells
+
+-- `prev` is what is seen in the layer before, `this` what is seen in layer k; the very first row starts after the corner
+pub record Wave (S : Sizes) (cells old : List ℕ) (g : Between) (base k behind first : ℕ) (prev this : ℕ → ℕ → Bool) : Type 0 where
+  pub before : (a b : ℕ) → a ≤ g .x .steps → b ≤ g .y .steps → getD old (spot S g a b behind) 0 ≡ bit (prev a b)
+  pub corner : first ≡ 1 → (getD old (spot S g 0 0 k) 0 ≡ 1) × (this 0 0 ≡ true)
+  pub later : (a b : ℕ) → a ≤ g .x .steps → b ≤ g .y .steps → (first ≡ 1 → a + b ≡ 0 → ⊥) → this a b
+      ≡ mayPass (getD cells (base + spot S g a b k) 0) && ((ltb 0 a && this (a - 1) b) || (ltb 0 b && this a (b - 1)) || prev a b)
+
+-- the first n rows of layer k
+pub record Layer (S : Sizes) (cells old new : List ℕ) (g : Between) (base k behind first n : ℕ) : Type 0 where
+  pub at : (prev this : ℕ → ℕ → Bool) → Wave S cells old g base k behind first prev this
+      → (a b : ℕ) → a ≤ g .x .steps → b < n → b ≤ g .y .steps → getD new (spot S g a b k) 0 ≡ bit (this a b)
+  pub kept : (i : ℕ) → ((a b : ℕ) → a ≤ g .x .steps → b < n → b ≤ g .y .steps → i ≡ spot S g a b k → ⊥) → getD new i 0 ≡ getD old i 0
+  pub size : length new ≡ length old
+
+-- the bytes of one layer say what `f a b` says; layers i to n, each over the one before
+abbrev pub Holds : Sizes → Between → (ℕ → ℕ → Bool) → List ℕ → Type 0
+Holds S g f layer = (a b : ℕ) → a ≤ g .x .steps → b ≤ g .y .steps → getD layer (spot S (flat g) a b 0) 0 ≡ bit (f a b)
+
+pub record Layers (m : Map) (g : Between) (i n : ℕ) (old new : List ℕ) : Type 0 where
+  pub holds : (seen : Place → Bool) → Seen m g seen → Holds (m .sizes) g (prior seen i) old → Holds (m .sizes) g (prior seen n) new
+  pub size : length new ≡ length old
+
+-- the bytes before the first layer: only the corner is seen
+abbrev pub seed : ℕ → List ℕ
+seed corner = set (replicate 256 0) corner 1
+
+-- the first n bytes are 0 or 1
+abbrev pub Bits : List ℕ → ℕ → Type 0
+Bits bytes n = (k : ℕ) → k < n → getD bytes k 0 ≤ 1
+
+-- no byte is 1 yet
+abbrev pub Blank : Sizes → List ℕ → Type 0
+Blank S bytes = (k : ℕ) → k < nodes S → getD bytes k 0 ≡ 0
+
+-- the first n layers, each at its own nodes, and no other byte
+pub record Spread (m : Map) (g : Between) (n : ℕ) (old new : List ℕ) : Type 0 where
+  pub at : (seen : Place → Bool) → Seen m g seen → (t : Place) → Within g t → t .z < n → getD new (number (m .sizes) (reach g t)) 0 ≡ bit (seen t)
+  pub kept : (i : ℕ) → ((t : Place) → Within g t → t .z < n → i ≡ number (m .sizes) (reach g t) → ⊥) → getD new i 0 ≡ getD old i 0
+  pub size : length new ≡ length old
+
+-- the byte of the node x, y and z steps nearer to the corner than t, if a step is left
+abbrev pub entered : Sizes → Between → List ℕ → Place → ℕ → ℕ → ℕ → ℕ → ℕ
+entered S g bytes t left x y z = cond (ltb 0 left) (getD bytes (spot S g (t .x - x) (t .y - y) (t .z - z)) 0) 0
+
+-- the ways into a node, as they stand in the bytes
+abbrev pub waysIn : Sizes → Between → List ℕ → Place → Ways
+waysIn S g bytes t = record {
+  x = entered S g bytes t (t .x) 1 0 0;
+  y = entered S g bytes t (t .y) 0 1 0;
+  z = entered S g bytes t (t .z) 0 0 1;
+}
+
+-- the ways into a node, whatever is seen
+abbrev pub WaysTo : Map → Between → Place → Ways → Type 0
+WaysTo m g t w = (seen : Place → Bool) → Seen m g seen → w ≡ waysOf seen t
+
+-- the bit of a preferred direction, if the way is seen
+abbrev pub flagOf : Wanted → ℕ → ℕ
+flagOf (Way j) seen = seen * 2 ^ j
+flagOf Level seen = 0

@@ -1,0 +1,74 @@
+// The offered set at the start of a route, from a sweep that begins at its end.
+use crate::Between;
+use crate::Ways;
+use crate::boxes::between;
+use crate::signed::difference;
+use crate::signed::way;
+use crate::sweep::entered;
+use crate::sweep::over;
+use crate::sweep::seeded;
+use crate::sweep::sweep;
+use crate::sweep::ways_in;
+use mesh::Place;
+use mesh::Sizes;
+use paths::Wanted;
+ghost use mathlib.Core.Path.{_≡_};
+ghost use mathlib.Core.Bool.{not, _||_};
+ghost use Prim.Native.Nat.{_+_, _≤_, _<_};
+ghost use lib.Dec.{eqb};
+ghost use lib.Signed.{mag};
+ghost use Rattle.mesh.specs.Cells.{mapOf};
+ghost use Rattle.paths.specs.Differences.{wanted};
+ghost use Rattle.paths.specs.Offered.{offered};
+ghost use Rattle.sweeps.specs.Box.{far};
+ghost use Rattle.sweeps.specs.Sweep.{Ready, Ends, WaysTo, flagOf};
+
+// The ways into the far corner of a box. The layer before the last is read where the last one goes over it.
+pub fn ways(s: Sizes, cells: &[u8], g: Between) -> Ways
+    requires { ⌜ Ready s (now cells) g ⌝ }
+    ensures { λ r. ⌜ WaysTo (mapOf s (now (cells .entry))) g (far g) r ⌝ }
+{
+    let c = g.z.steps;
+    let f = g.flat();
+    let mut layer = seeded(f.node(s, 0, 0, 0));
+    sweep(s, cells, g, c, &mut layer);
+    let t = f.far();
+    let z = entered(s, f, &layer, t, c, 0, 0, 0);
+    over(s, cells, g, c, &mut layer);
+    let w = ways_in(s, f, &layer, t);
+    Ways { x: w.x, y: w.y, z }
+}
+
+// Does a path lead between two corners, h hops apart, with these ways into the second?
+pub fn leads_on(h: usize, w: Ways) -> bool
+    requires { ⌜ (w .x ≤ 1) × (w .y ≤ 1) × (w .z ≤ 1) ⌝ }
+    ensures { λ r. ⌜ r ≡ (eqb h 0 || not (eqb (w .x + w .y + w .z) 0)) ⌝ }
+{
+    if h == 0 {
+        return true;
+    }
+    w.x + w.y + w.z != 0
+}
+
+// The bit of the direction that a difference prefers, where the way is seen.
+fn flag(up: usize, d: i32, seen: u8) -> u8
+    requires { ⌜ (up < 5) × (mag d < 16) × (seen ≤ 1) ⌝ }
+    ensures { λ r. ⌜ (r ≡ flagOf (wanted up d) seen) × (r ≤ 32) ⌝ }
+{
+    let w = way(up, d);
+    match w {
+        Wanted::Way(j) => seen << j,
+        Wanted::Level => 0,
+    }
+}
+
+// The offered set at p on the way to e.
+pub fn offered(s: Sizes, cells: &[u8], p: Place, e: Place) -> u8
+    requires { ⌜ Ends s (now cells) p e ⌝ }
+    ensures { λ r. ⌜ r ≡ offered (mapOf s (now (cells .entry))) e p ⌝ }
+{
+    let w = ways(s, cells, between(e, p));
+    flag(0, difference(p.x, e.x), w.x)
+        + flag(2, difference(p.y, e.y), w.y)
+        + flag(4, difference(p.z, e.z), w.z)
+}

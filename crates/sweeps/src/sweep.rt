@@ -1,0 +1,143 @@
+// The sweep: which nodes of a box are seen from its first corner. A node's byte is 1 if it is seen, else 0. It stands at the node's number;
+// or each layer goes over the one before, in a row of 256 bytes.
+use crate::Between;
+use crate::Run;
+use crate::Ways;
+use mesh::Place;
+use mesh::Sizes;
+use mesh::cells::may_pass;
+ghost use mathlib.Core.Path.{_≡_};
+ghost use Prim.Native.Nat.{_+_, _≤_, _<_};
+ghost use lib.ListN.{length};
+ghost use Rattle.mesh.specs.Cells.{mapOf, mayPass};
+ghost use Rattle.sweeps.specs.Box.{Within};
+ghost use Rattle.sweeps.specs.Sweep.{joined, seed, entered, waysIn, Rows, Row, Room, Laid, Layer, Layers, Ready};
+
+// Seen if it may be passed and one of three bytes is 1.
+fn join(cell: u8, y: u8, z: u8, x: u8) -> u8
+    ensures { λ r. ⌜ r ≡ joined (mayPass cell) y z x ⌝ }
+{
+    (may_pass(cell) as u8) & (y | z | x)
+}
+
+// Row r of the bytes, from place `from` on, whose cells begin `base` further on. The rows before it on Y and Z begin at y and z.
+// The corner, where the very first row begins, is seen by itself: that row starts after it.
+fn row(cells: &[u8], base: usize, r: Run, y: usize, z: usize, from: usize, bytes: &mut [u8])
+    requires { ⌜ Rows (now cells) (now bytes) r base y z × (from ≤ 1) ⌝ }
+    ensures { λ _. ⌜ Row (now (cells .entry)) (now (bytes .entry)) (now (bytes .exit)) r base y z from (r .steps + 1) ⌝ }
+{
+    let n = r.steps + 1;
+    let start = r.from;
+    let mut last = from as u8;
+    let mut a = from;
+    while a < n {
+        let k = r.at(a);
+        last = join(
+            cells[base + k],
+            bytes[k + y - start],
+            bytes[k + z - start],
+            last,
+        );
+        bytes[k] = last;
+        a += 1;
+    }
+}
+
+// Layer k of the bytes, after layer `behind`. Row 0 has none before it, and reads the layer behind in its place.
+pub fn sweep_layer(
+    s: Sizes,
+    cells: &[u8],
+    base: usize,
+    g: Between,
+    k: usize,
+    behind: usize,
+    first: usize,
+    bytes: &mut [u8],
+)
+    requires { ⌜ Laid s (now cells) (now bytes) g base k behind × (first ≤ 1) ⌝ }
+    ensures { λ _. ⌜ Layer s (now (cells .entry)) (now (bytes .entry)) (now (bytes .exit)) g base k behind first (g .y .steps + 1) ⌝ }
+{
+    let n = g.y.steps + 1;
+    let mut y = g.node(s, 0, 0, behind);
+    let mut from = first;
+    let mut b = 0;
+    while b < n {
+        let r = g.row(s, b, k);
+        row(cells, base, r, y, g.node(s, 0, b, behind), from, bytes);
+        y = r.from;
+        from = 0;
+        b += 1;
+    }
+}
+
+// Layer c, over the layer before it.
+pub fn over(s: Sizes, cells: &[u8], g: Between, c: usize, layer: &mut [u8])
+    requires { ⌜ Ready s (now cells) g × (length (now layer) ≡ 256) × (c ≤ g .z .steps) ⌝ }
+    ensures { λ _. ⌜ Layers (mapOf s (now (cells .entry))) g c (c + 1) (now (layer .entry)) (now (layer .exit)) ⌝ }
+{
+    let f = g.flat();
+    sweep_layer(
+        s,
+        cells,
+        g.node(s, 0, 0, c) - f.node(s, 0, 0, 0),
+        f,
+        0,
+        0,
+        (c == 0) as usize,
+        layer,
+    );
+}
+
+// The first n layers, each over the one before.
+pub fn sweep(s: Sizes, cells: &[u8], g: Between, n: usize, layer: &mut [u8])
+    requires { ⌜ Ready s (now cells) g × (length (now layer) ≡ 256) × (n ≤ g .z .steps) ⌝ }
+    ensures { λ _. ⌜ Layers (mapOf s (now (cells .entry))) g 0 n (now (layer .entry)) (now (layer .exit)) ⌝ }
+{
+    let mut c = 0;
+    while c < n {
+        over(s, cells, g, c, layer);
+        c += 1;
+    }
+}
+
+// What there is before the first layer: only the corner is seen.
+pub fn seeded(corner: usize) -> [u8; 256]
+    requires { ⌜ corner < 256 ⌝ }
+    ensures { λ r. ⌜ r ≡ seed corner ⌝ }
+{
+    let mut layer = [0u8; 256];
+    layer[corner] = 1;
+    layer
+}
+
+// The byte of the node x, y and z steps nearer to the corner than t; 0 if no step is left.
+pub fn entered(
+    s: Sizes,
+    g: Between,
+    bytes: &[u8],
+    t: Place,
+    left: usize,
+    x: usize,
+    y: usize,
+    z: usize,
+) -> u8
+    requires { ⌜ Room s g (now bytes) × Within g t × (0 < left → (x ≤ t .x) × (y ≤ t .y) × (z ≤ t .z)) ⌝ }
+    ensures { λ r. ⌜ r ≡ entered s g (now (bytes .entry)) t left x y z ⌝ }
+{
+    if left == 0 {
+        return 0;
+    }
+    bytes[g.node(s, t.x - x, t.y - y, t.z - z)]
+}
+
+// The ways into the node t steps from the corner.
+pub fn ways_in(s: Sizes, g: Between, bytes: &[u8], t: Place) -> Ways
+    requires { ⌜ Room s g (now bytes) × Within g t ⌝ }
+    ensures { λ r. ⌜ r ≡ waysIn s g (now (bytes .entry)) t ⌝ }
+{
+    Ways {
+        x: entered(s, g, bytes, t, t.x, 1, 0, 0),
+        y: entered(s, g, bytes, t, t.y, 0, 1, 0),
+        z: entered(s, g, bytes, t, t.z, 0, 0, 1),
+    }
+}
