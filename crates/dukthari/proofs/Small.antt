@@ -24,8 +24,8 @@ use Rattle.mesh.specs.declared.Answer.{Answer}
 use Rattle.mesh.specs.declared.Answer.the-variants.{Done, Refused}
 use Rattle.mesh.specs.Marks.{marksOf}
 use Rattle.marks.specs.Entry.{marksAnswer}
-use Rattle.components.specs.Components.{howMany}
-use Rattle.components.specs.Entry.{componentsCheck, componentsAnswer}
+use Rattle.touching.specs.Components.{howMany}
+use Rattle.touching.specs.Entry.{componentsCheck, componentsAnswer}
 use Rattle.routes.specs.Differences.{hops}
 use Rattle.routes.specs.Paths.{leads}
 use Rattle.routes.specs.Offered.{offered, reachedAt, reachedCount}
