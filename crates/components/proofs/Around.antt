@@ -3,13 +3,13 @@ use mathlib.Core.Path.{_≡_}
 use mathlib.Core.Bool.{Bool, _&&_}
 use Prim.Native.Nat.{ℕ, _+_, _-_, _*_, _/_, _%_, _≤_, _<_}
 use native.Mathlib.Omega.{arith}
-use lib.Dec.{T, leb, ltb, leb→le, le→leb, ltb→lt, eqb}
+use lib.Dec.{T, leb, ltb, leb→le, ltb→lt, eqb}
 use lib.ListN.{getD}
-use Rattle.mesh.specs.Tools.{all, any, implies, between}
-use Rattle.mesh.specs.Mesh.{X, Y, Z, every}
-use Rattle.mesh.proofs.Tests.{T-all, T-any, T-and, T-implies, T-eq, T-every}
+use Rattle.mesh.specs.Tools.{all, any, implies}
+use Rattle.mesh.proofs.Tests.{T-all, T-any, T-and, T-implies, T-eq}
 use Rattle.mesh.specs.declared.Place.{Place}
-use Rattle.components.specs.Touch.{apart, touch}
+use Rattle.touching.specs.Touch.{touch}
+use Rattle.touching.proofs.Eighteen.{turns, touch-digits, digits-touch}
 use Rattle.components.specs.Grid.{spot, placeAt, Spot, around, Beside}
 
 -- ---- the steps stay in the grid
@@ -41,16 +41,11 @@ at-spot p hx hy = rw (ex, ey, ez)
     ez : (spot p - 307) / 289 ≡ p .z
     ez = omega arith
 
--- ---- the steps: digits 0, 1, 2 for -1, 0, 1 on each axis, one or two of them not 1
+-- ---- the steps
 
-abbrev pub off : ℕ → ℕ
-off d = 1 - d + (d - 1)
-
+-- the step with these digits
 abbrev pub step : ℕ → ℕ → ℕ → ℕ
 step a b c = a + 17 * b + 289 * c
-
-abbrev pub turns : ℕ → ℕ → ℕ → Bool
-turns a b c = between 1 2 (off a + off b + off c)
 
 -- each such step is in the table, and the table has no other; back again is in the table too
 abbrev in-table : ℕ → Bool
@@ -91,48 +86,17 @@ beside-sym i j b =
 
 -- ---- the steps are those between touching places
 
--- by how much two coordinates differ, and the digit of the step from m to n
-abbrev gap : ℕ → ℕ → ℕ
-gap m n = m - n + (n - m)
-
-digit : (m n : ℕ) → gap m n ≤ 1 → (a : ℕ) × (a < 3) × (n + 1 ≡ m + a) × (gap m n ≡ off a)
-digit m n h = (n + 1 - m, omega arith, omega arith, omega arith)
-
-gap-of : (m n a : ℕ) → a < 3 → n + 1 ≡ m + a → (gap m n ≡ off a) × (gap m n ≤ 1)
-gap-of m n a h e = (omega arith, omega arith)
-
 pub touch-beside : (p q : Place) → T (touch p q) → Beside (spot p) (spot q)
-unfolding touch
 touch-beside p q t =
-    let (u, v) = T-and (every (λ a. leb (apart p q a) 1)) (between 1 2 (apart p q X + apart p q Y + apart p q Z)) .0 t in
-    let f = T-every (λ a. leb (apart p q a) 1) .0 u in
-    by-digits (digit (p .x) (q .x) (leb→le (apart p q X) 1 (f X))) (digit (p .y) (q .y) (leb→le (apart p q Y) 1 (f Y)))
-    (digit (p .z) (q .z) (leb→le (apart p q Z) 1 (f Z))) v
-  where
-    by-digits : (a : ℕ) × (a < 3) × (q .x + 1 ≡ p .x + a) × (gap (p .x) (q .x) ≡ off a)
-        → (b : ℕ) × (b < 3) × (q .y + 1 ≡ p .y + b) × (gap (p .y) (q .y) ≡ off b)
-        → (c : ℕ) × (c < 3) × (q .z + 1 ≡ p .z + c) × (gap (p .z) (q .z) ≡ off c)
-        → T (between 1 2 (gap (p .x) (q .x) + gap (p .y) (q .y) + gap (p .z) (q .z))) → Beside (spot p) (spot q)
-    by-digits (a, ha, ea, fa) (b, hb, eb, fb) (c, hc, ec, fc) v =
-        beside-step (spot p) (spot q) a b c ha hb hc (rw (fa, fb, fc) at v) (omega arith)
+    let (a, b, c, s) = touch-digits p q t in
+    let (ha, hb, hc) = s .small in
+    beside-step (spot p) (spot q) a b c ha hb hc (s .turning) (omega (arith, s .on-x, s .on-y, s .on-z))
 
 -- the digits of a sum of bounded coordinates
 digits : (x y z x′ y′ z′ a b c : ℕ) → x < 16 → y < 16 → x′ < 16 → y′ < 16 → a < 3 → b < 3
     → 307 + (x′ + 17 * y′ + 289 * z′) + 307 ≡ 307 + (x + 17 * y + 289 * z) + (a + 17 * b + 289 * c) → (x′ + 1 ≡ x + a)
     × (y′ + 1 ≡ y + b) × (z′ + 1 ≡ z + c)
 digits x y z x′ y′ z′ a b c hx hy hx′ hy′ ha hb e = (omega arith, omega arith, omega arith)
-
-touch-by : (p q : Place) (a b c : ℕ) → a < 3 → b < 3 → c < 3 → q .x + 1 ≡ p .x + a → q .y + 1 ≡ p .y + b → q .z + 1 ≡ p .z + c
-    → T (turns a b c) → T (touch p q)
-unfolding touch
-touch-by p q a b c ha hb hc ea eb ec t =
-    let (fx, lx) = gap-of (p .x) (q .x) a ha ea in
-    let (fy, ly) = gap-of (p .y) (q .y) b hb eb in
-    let (fz, lz) = gap-of (p .z) (q .z) c hc ec in
-    T-and (every (λ a. leb (apart p q a) 1)) (between 1 2 (apart p q X + apart p q Y + apart p q Z)) .1 (
-      T-every (λ a. leb (apart p q a) 1) .1 (elim [ X ↦ le→leb (apart p q X) 1 lx | Y ↦ le→leb (apart p q Y) 1 ly | Z ↦ le→leb (apart p q Z) 1 lz ]),
-      rw (fx, fy, fz) t,
-    )
 
 pub beside-touch : (p q : Place) → p .x < 16 → p .y < 16 → q .x < 16 → q .y < 16 → Beside (spot p) (spot q) → T (touch p q)
 beside-touch p q hx hy hx′ hy′ bs =
@@ -148,4 +112,5 @@ beside-touch p q hx hy hx′ hy′ bs =
         let hb = ltb→lt (v / 17 % 17) 3 tb in
         let f : v ≡ v % 17 + 17 * (v / 17 % 17) + 289 * (v / 289) = omega arith in
         let (ea, eb, ec) = digits (p .x) (p .y) (p .z) (q .x) (q .y) (q .z) (v % 17) (v / 17 % 17) (v / 289) hx hy hx′ hy′ ha hb (omega arith) in
-        touch-by p q (v % 17) (v / 17 % 17) (v / 289) ha hb (ltb→lt (v / 289) 3 tc) ea eb ec tu
+        digits-touch p q (v % 17) (v / 17 % 17) (v / 289)
+        record { small = (ha, hb, ltb→lt (v / 289) 3 tc); on-x = ea; on-y = eb; on-z = ec; turning = tu }

@@ -13,7 +13,7 @@ use Rattle.mesh.proofs.Tests.{tried}
 use Rattle.mesh.specs.declared.Place.{Place}
 use Rattle.components.specs.Grid.{placeAt}
 use Rattle.components.specs.Label.{leastOf, greatestOf, alone, widen, Ranged}
-use Rattle.components.specs.declared.Component.{Component}
+use Rattle.touching.specs.declared.Component.{Component}
 
 module _ (q : List ℕ) (axis : Axis) where
   abbrev at : ℕ → ℕ

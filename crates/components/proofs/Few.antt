@@ -12,9 +12,10 @@ use Rattle.mesh.proofs.Tests.{T-and, T-or, T-eq, T-all, tried}
 use Rattle.components.specs.Grid.{unseen, spot, placeAt, Spot, Beside}
 use Rattle.components.specs.Label.{Untouched, Labelled}
 use Rattle.mesh.specs.declared.Place.{Place}
-use Rattle.components.specs.declared.Component.{Component}
-use Rattle.components.proofs.Around.{step, turns, spot-at, beside-step}
-use Rattle.components.proofs.Counts.{few}
+use Rattle.touching.specs.declared.Component.{Component}
+use Rattle.touching.proofs.Eighteen.{turns}
+use Rattle.components.proofs.Around.{step, spot-at, beside-step}
+use Rattle.touching.proofs.Counts.{few}
 use Rattle.components.proofs.Labels.{was-unseen}
 
 -- ---- spots of the same x and the same halves of y and z

@@ -15,9 +15,9 @@ use Rattle.mesh.proofs.Tests.{T-eq, bool-ext, tried}
 use Rattle.components.specs.Grid.{gridSize, unseen, Spot, Beside, Linked, here, onward, howOften}
 use Rattle.components.specs.Flood.{Flooded}
 use Rattle.components.specs.Label.{leastOf, greatestOf, Ranged, Spans, Recorded, Untouched, Labelled}
-use Rattle.components.specs.declared.Component.{Component}
+use Rattle.touching.specs.declared.Component.{Component}
 use Rattle.components.proofs.Around.{beside-sym}
-use Rattle.components.proofs.Counts.{sum-same, same-or-not}
+use Rattle.touching.proofs.Counts.{sum-same, same-or-not}
 use Rattle.components.proofs.Boxes.{Boxed}
 
 -- nothing is numbered yet

@@ -1,10 +1,3 @@
-pub mod Lists
-pub mod Ranks
-pub mod Joined
-pub mod Numbers
-pub mod Extremes
-pub mod Records
-pub mod Counts
 pub mod Around
 pub mod Parts
 pub mod Layouts
@@ -16,4 +9,3 @@ pub mod Turns
 pub mod Nodes
 pub mod Outcomes
 pub mod Held
-pub mod Impostors

@@ -15,15 +15,15 @@ use Rattle.mesh.proofs.Tests.{T-and, T-any, T-eq, tried, bool-ext}
 use Rattle.mesh.proofs.Tables.{length-table, getD-table}
 use Rattle.mesh.specs.declared.Sizes.{Sizes}
 use Rattle.mesh.specs.declared.Place.{Place}
-use Rattle.components.specs.Touch.{unsafe, Joined, itself, further}
-use Rattle.components.specs.Components.{coordinate, tableOf, recordsOf, howMany}
-use Rattle.components.specs.Promise.{Lowest, Numbers, Extent, Records, Promise}
+use Rattle.touching.specs.Touch.{unsafe, Joined, itself, further}
+use Rattle.touching.specs.Components.{coordinate, tableOf, recordsOf, howMany}
+use Rattle.touching.specs.Promise.{Lowest, Numbers, Extent, Records, Promise}
 use Rattle.components.specs.Grid.{gridSize, unseen, placeAt, gridAt, Beside, Linked, here, onward, howOften}
 use Rattle.components.specs.Label.{Spans, Recorded, Labelled}
-use Rattle.components.specs.declared.Component.{Component}
-use Rattle.components.proofs.Joined.{joined-trans, joined-sym, end-unsafe}
-use Rattle.components.proofs.Records.{promise-only}
-use Rattle.components.proofs.Counts.{sum-same, image, image-count}
+use Rattle.touching.specs.declared.Component.{Component}
+use Rattle.touching.proofs.Joined.{joined-trans, joined-sym, end-unsafe}
+use Rattle.touching.proofs.Records.{promise-only}
+use Rattle.touching.proofs.Counts.{sum-same, image, image-count}
 use Rattle.components.proofs.Spots.{at, place-at, at-lt, at-eq, at-le, touching-beside, beside-touching, unsafe-node, unsafe-spot, safe-spot}
 use Rattle.components.proofs.Spots.{unseen-node, untouched}
 

@@ -25,13 +25,13 @@ use Rattle.mesh.proofs.Numbers.{nodes-le}
 use Rattle.mesh.proofs.Answers.{split, room-granted, map-granted}
 use Rattle.mesh.proofs.Marks.{marks-length}
 use Rattle.marks.specs.Entry.{marksAnswer}
-use Rattle.components.specs.Components.{tableOf, recordsOf, howMany}
-use Rattle.components.specs.Entry.{componentsCheck, componentsAnswer, componentsTable, componentsRow, tableWritten, rowWritten}
+use Rattle.touching.specs.Components.{tableOf, recordsOf, howMany}
+use Rattle.touching.specs.Entry.{componentsCheck, componentsAnswer, componentsTable, componentsRow, tableWritten, rowWritten}
 use Rattle.components.specs.Grid.{gridSize, spot, gridAt}
 use Rattle.components.specs.Layout.{Copied}
 use Rattle.components.specs.Label.{Untouched, Within, Labelled}
 use Rattle.components.specs.Outcome.{Gridded, roomCheck, Settled, storedOf, Computed}
-use Rattle.components.specs.declared.Component.{Component}
+use Rattle.touching.specs.declared.Component.{Component}
 use Rattle.components.specs.declared.Outcome.{Outcome}
 use Rattle.components.proofs.Spots.{untouched, within}
 use Rattle.components.proofs.Nodes.{numbers, as-defined}

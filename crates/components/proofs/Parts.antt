@@ -14,7 +14,7 @@ use Rattle.mesh.specs.Tools.{bit, count}
 use Rattle.mesh.proofs.Tables.{sum-zero}
 use Rattle.components.specs.Grid.{gridSize, unseen, around, Beside, Linked, here, onward, howOften}
 use Rattle.components.specs.Flood.{Sized, Visited, entered, passed, Part, Spread, Flooded}
-use Rattle.components.proofs.Counts.{same-or-not, sum-raise, count-le}
+use Rattle.touching.proofs.Counts.{same-or-not, sum-raise, count-le}
 
 -- ---- how often a number stands in a list
 

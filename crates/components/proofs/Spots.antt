@@ -15,10 +15,10 @@ use Rattle.mesh.proofs.Answers.{inside-of, inside-is}
 use Rattle.mesh.proofs.Numbers.{room, number-of, number-lt, place-in, place-of}
 use Rattle.mesh.specs.declared.Sizes.{Sizes}
 use Rattle.mesh.specs.declared.Place.{Place}
-use Rattle.components.specs.Touch.{unsafe, touching}
+use Rattle.touching.specs.Touch.{unsafe, touching}
 use Rattle.components.specs.Grid.{gridSize, unseen, spot, placeAt, shade, gridAt, Spot, Beside}
 use Rattle.components.specs.Label.{Untouched, Within}
-use Rattle.components.proofs.Joined.{unsafe-lt}
+use Rattle.touching.proofs.Joined.{unsafe-lt}
 use Rattle.components.proofs.Around.{spot-at, at-spot, touch-beside, beside-touch}
 use Rattle.components.proofs.Layouts.{grid-none, grid-at}
 

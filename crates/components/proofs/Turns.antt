@@ -8,7 +8,7 @@ use lib.ListN.{length, getD, set, length-set}
 use Rattle.components.specs.Grid.{gridSize, unseen, around, Spot}
 use Rattle.components.specs.Flood.{Sized, Flooded}
 use Rattle.components.specs.Label.{Untouched, Within, Labelled}
-use Rattle.components.specs.declared.Component.{Component}
+use Rattle.touching.specs.declared.Component.{Component}
 use Rattle.components.proofs.Parts.{often-le}
 use Rattle.components.proofs.Boxes.{Boxed}
 use Rattle.components.proofs.Labels.{label-none, label-on, label-more, was-unseen, next-fresh, unseen-spot}

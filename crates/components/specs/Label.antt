@@ -7,7 +7,7 @@ use lib.ListN.{length, getD}
 use Rattle.mesh.specs.Mesh.{Axis, X, Y, Z, on}
 use Rattle.mesh.specs.declared.Place.{Place}
 use Rattle.components.specs.Grid.{gridSize, unseen, placeAt, Spot, Beside, Linked, howOften}
-use Rattle.components.specs.declared.Component.{Component}
+use Rattle.touching.specs.declared.Component.{Component}
 
 -- a record's least and greatest coordinate on an axis
 abbrev pub leastOf : Component → Axis → ℕ

@@ -1,8 +1,3 @@
-pub mod Lists
-pub mod Touch
-pub mod Components
-pub mod Promise
-pub mod Entry
 pub mod Grid
 pub mod Layout
 pub mod Flood

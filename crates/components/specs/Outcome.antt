@@ -13,8 +13,8 @@ use Rattle.mesh.specs.declared.Answer.the-variants.{Done, Refused}
 use Rattle.mesh.specs.declared.Refusal.{Refusal}
 use Rattle.mesh.specs.declared.Numbered.{Numbered}
 use Rattle.mesh.specs.declared.Numbered.the-variants.{Number, NotNumbered}
-use Rattle.components.specs.Components.{recordsOf, howMany}
-use Rattle.components.specs.Entry.{componentsCheck, componentsAnswer, tableWritten}
+use Rattle.touching.specs.Components.{recordsOf, howMany}
+use Rattle.touching.specs.Entry.{componentsCheck, componentsAnswer, tableWritten}
 use Rattle.components.specs.Grid.{gridAt}
 use Rattle.components.specs.Layout.{Copied}
 use Rattle.components.specs.declared.Outcome.{Outcome}

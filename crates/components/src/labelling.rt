@@ -1,10 +1,10 @@
 // All components, one after another by their lowest node.
-use crate::Component;
 use crate::Found;
 use crate::flood::UNSEEN;
 use crate::flood::flood;
 use crate::flood::steps_around;
 use crate::recording::record_of;
+use touching::Component;
 ghost use mathlib.Core.Path.{_≡_};
 ghost use Prim.Native.Nat.{_+_, _<_, _≤_};
 ghost use lib.ListN.{length};

@@ -1,4 +1,4 @@
-// The components of a map: their records. Its specs/ have the definitions and the call's equations.
+// The components of a map: the code that finds them. Its specs/ say how; what is found is defined in touching.
 
 pub mod entry;
 pub mod flood;
@@ -8,18 +8,7 @@ pub mod recording;
 pub mod storing;
 
 use mesh::Numbered;
-
-// A component: how many nodes it has, and the least and the greatest coordinate on each axis.
-#[repr(C)]
-pub struct Component {
-    pub count: u16,
-    pub x0: u8,
-    pub y0: u8,
-    pub z0: u8,
-    pub x1: u8,
-    pub y1: u8,
-    pub z1: u8,
-}
+use touching::Component;
 
 // Where a row of the mesh begins: its first node, and that node's place in the grid.
 pub struct Row {

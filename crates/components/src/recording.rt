@@ -1,6 +1,6 @@
 // The record of a component, from the queue that holds its places.
-use crate::Component;
 use mesh::Place;
+use touching::Component;
 ghost use mathlib.Core.Path.{_≡_};
 ghost use Prim.Native.Nat.{ℕ, _<_, _≤_, min, max};
 ghost use lib.ListN.{length, getD};

@@ -1,5 +1,5 @@
 // The finished records go into the row that the caller lends.
-use crate::Component;
+use touching::Component;
 ghost use mathlib.Core.Path.{_≡_};
 ghost use mathlib.Core.List.{_++_};
 ghost use Prim.Native.Nat.{_≤_};

@@ -19,7 +19,7 @@ use borrow.Fn.World as world
 use borrow.Fn.Learn.{no-pin, no-own}
 use borrow.Fn.Read.{Read, all-models, reads, no-know}
 use borrow.Fn.Written as written
-use Rattle.components.proofs.Component as C
+use Rattle.touching.proofs.Component as C
 use Rattle.dukthari.proofs.CountedAnswer as K
 use Rattle.dukthari.proofs.CountedAnswer.Laws as K′
 use Rattle.dukthari.proofs.dk_components as f

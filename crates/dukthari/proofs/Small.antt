@@ -24,8 +24,8 @@ use Rattle.mesh.specs.declared.Answer.{Answer}
 use Rattle.mesh.specs.declared.Answer.the-variants.{Done, Refused}
 use Rattle.mesh.specs.Marks.{marksOf}
 use Rattle.marks.specs.Entry.{marksAnswer}
-use Rattle.components.specs.Components.{howMany}
-use Rattle.components.specs.Entry.{componentsCheck, componentsAnswer}
+use Rattle.touching.specs.Components.{howMany}
+use Rattle.touching.specs.Entry.{componentsCheck, componentsAnswer}
 use Rattle.paths.specs.Differences.{hops}
 use Rattle.paths.specs.Paths.{leads}
 use Rattle.paths.specs.Offered.{offered, reachedAt, reachedCount}

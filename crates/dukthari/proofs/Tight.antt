@@ -16,9 +16,9 @@ use Rattle.mesh.specs.declared.Answer.the-variants.{Done, Refused}
 use Rattle.mesh.specs.declared.Sizes.{Sizes}
 use Rattle.mesh.specs.Marks.{marksOf}
 use Rattle.marks.specs.Entry.{marksAnswer, marksWritten, marksOut}
-use Rattle.components.specs.Components.{howMany}
-use Rattle.components.specs.Entry.{componentsCheck, componentsAnswer, componentsTable, componentsRow, tableWritten, rowWritten}
-use Rattle.components.specs.declared.Component.{Component}
+use Rattle.touching.specs.Components.{howMany}
+use Rattle.touching.specs.Entry.{componentsCheck, componentsAnswer, componentsTable, componentsRow, tableWritten, rowWritten}
+use Rattle.touching.specs.declared.Component.{Component}
 use Rattle.paths.specs.Offered.{reachedCount}
 use Rattle.paths.specs.Entries.{routeLength, routeCheck, routeAnswer, routeWritten, routeOut}
 use Rattle.paths.specs.Entries.{reachedCheck, reachedAnswer, reachedWritten, reachedOut}

@@ -4,7 +4,7 @@ use mathlib.Core.Path.{_≡_}
 use Prim.Native.Nat.{ℕ}
 use lib.ListN.{length}
 use Rattle.mesh.specs.declared.Sizes.{Sizes}
-use Rattle.components.specs.Entry.{componentsAnswer}
+use Rattle.touching.specs.Entry.{componentsAnswer}
 use Rattle.components.specs.Outcome.{Computed}
 use Rattle.dukthari.specs.Answers.{countedFields}
 use Rattle.dukthari.specs.declared.Grouped.{Grouped}

@@ -19,9 +19,9 @@ use Rattle.mesh.proofs.Bytes.{mark-has}
 use Rattle.mesh.proofs.Marks.{marks-length, marks-at}
 use Rattle.mesh.proofs.Answers.{map-granted}
 use Rattle.marks.specs.Entry.{marksAnswer, marksWritten, marksOut}
-use Rattle.components.specs.Components.{howMany}
-use Rattle.components.specs.Entry.{componentsCheck}
-use Rattle.components.proofs.Numbers.{how-many-le}
+use Rattle.touching.specs.Components.{howMany}
+use Rattle.touching.specs.Entry.{componentsCheck}
+use Rattle.touching.proofs.Numbers.{how-many-le}
 use Rattle.report.specs.Counts.{faultyCount, markedCount, faultyAmong, withBit}
 use Rattle.report.proofs.Tally.{count-same}
 

@@ -8,9 +8,9 @@ use Rattle.mesh.specs.Mesh.{sizes, inRange}
 use Rattle.mesh.specs.Steps.{next}
 use Rattle.mesh.specs.Cells.{faultyCell, badCell, wall, firstBad}
 use Rattle.mesh.specs.Marks.{rule, marked, stuckWithin, stuck, byteOf, markAt, marksOf}
-use Rattle.components.specs.Lists.{anyOf, keep, least}
-use Rattle.components.specs.Touch.{unsafeNodes, touch, grown, component}
-use Rattle.components.specs.Components.{lowest, lowestNodes, howMany}
+use Rattle.touching.specs.Lists.{anyOf, keep, least}
+use Rattle.touching.specs.Touch.{unsafeNodes, touch, grown, component}
+use Rattle.touching.specs.Components.{lowest, lowestNodes, howMany}
 use Rattle.mapfile.specs.Format.{trailer, fileOf, hasMark, cellsIn}
 use Rattle.mapfile.specs.Entry.{checkFrame, checkTrailer, readCheck, readAnswer}
 use Rattle.text.specs.Text.{ascii, decimalWithin, told}

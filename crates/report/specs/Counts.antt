@@ -7,7 +7,7 @@ use Rattle.mesh.specs.Tools.{count}
 use Rattle.mesh.specs.Mesh.{nodes, placeOf}
 use Rattle.mesh.specs.Cells.{Map, faultyCell, faulty}
 use Rattle.mesh.specs.Marks.{Kind, useless, cantReach, holds, marksOf}
-use Rattle.components.specs.Components.{howMany}
+use Rattle.touching.specs.Components.{howMany}
 use Rattle.report.specs.declared.Figures.{Figures}
 
 -- "count of faulty nodes"

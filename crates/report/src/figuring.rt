@@ -11,7 +11,7 @@ ghost use Rattle.mesh.specs.Cells.{mapOf};
 ghost use Rattle.mesh.specs.Marks.{marksOf};
 ghost use Rattle.mesh.specs.Answers.{checkMap};
 ghost use Rattle.mesh.specs.declared.Answer.the-variants.{Done};
-ghost use Rattle.components.specs.Components.{howMany};
+ghost use Rattle.touching.specs.Components.{howMany};
 ghost use Rattle.report.specs.Counts.{figuresOf};
 
 pub fn blank_cells() -> [u8; 4096]

@@ -1,6 +1,5 @@
 // Runs the sample that is too large for the table of samples: the map on standard input, in orientation 0. Prints each unsafe node with its mark
 // byte and its component's number, then each component's record. What it must print was written by the independent search program.
-use components::Component;
 use components::entry::compute;
 use libc::STDIN_FILENO;
 use mapfile::MapRead;
@@ -11,6 +10,7 @@ use mesh::Sizes;
 use mesh::entries::place_of;
 use text::running::print_front;
 use text::tell;
+use touching::Component;
 
 fn say_node(s: Sizes, k: usize, mark: u8, component: u16) {
     if let Placed::Found(p) = place_of(s, k) {

@@ -3,10 +3,10 @@ use mathlib.Core.Path.{_≡_, refl}
 use mathlib.Core.List.{map}
 use Rattle.mesh.specs.Marks.{marked, stuckWithin, stuck, markAt, marksOf}
 use Rattle.marks.specs.Entry.{marksAnswer, marksWritten}
-use Rattle.components.specs.Lists.{anyOf, keep, least, greatest}
-use Rattle.components.specs.Touch.{unsafeNodes, touch, grown, component}
-use Rattle.components.specs.Components.{lowest, lowestNodes, numberAmong, tableOf, recordOf, recordsOf, howMany}
-use Rattle.components.specs.Entry.{componentsCheck, componentsAnswer, tableWritten, rowWritten}
+use Rattle.touching.specs.Lists.{anyOf, keep, least, greatest}
+use Rattle.touching.specs.Touch.{unsafeNodes, touch, grown, component}
+use Rattle.touching.specs.Components.{lowest, lowestNodes, numberAmong, tableOf, recordOf, recordsOf, howMany}
+use Rattle.touching.specs.Entry.{componentsCheck, componentsAnswer, tableWritten, rowWritten}
 use Rattle.paths.proofs.Computed.{computed as routes}
 use Rattle.talk.proofs.Computed.{computed as talk}
 use Rattle.samples.specs.Questions.{reply}

@@ -8,8 +8,8 @@ use Rattle.mesh.specs.Answers.{answerNo, refusalNo}
 use Rattle.mesh.specs.declared.Numbered.{Numbered}
 use Rattle.mesh.specs.declared.Numbered.the-variants.{Number, NotNumbered}
 use Rattle.marks.specs.Entry.{marksAnswer, marksOut}
-use Rattle.components.specs.Entry.{componentsAnswer, componentsRow}
-use Rattle.components.specs.declared.Component.{Component}
+use Rattle.touching.specs.Entry.{componentsAnswer, componentsRow}
+use Rattle.touching.specs.declared.Component.{Component}
 use Rattle.paths.specs.Entries.{verdictAnswer, verdictNo, verdictHops, verdictOffered, routeAnswer, routeOut}
 use Rattle.paths.specs.declared.Verdict.{Verdict}
 use Rattle.talk.specs.State.{own}

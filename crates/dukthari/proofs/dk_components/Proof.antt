@@ -41,12 +41,12 @@ use denote.Triple.Table.{entered, cited}
 use denote.Triple.Walked.{says, Stays, gave-slice, stay-none, stay-none-slice, walkOf, goes-gave-slice, goes-none, goes-none-slice, Walks, ends-at, walked, walk-meets}
 use denote.Exit.{yes}
 use Rattle.mesh.specs.Mesh.{sizes}
-use Rattle.components.specs.declared.Component.{Component}
-use Rattle.components.specs.Entry.{componentsAnswer, componentsTable, componentsRow}
+use Rattle.touching.specs.declared.Component.{Component}
+use Rattle.touching.specs.Entry.{componentsAnswer, componentsTable, componentsRow}
 use Rattle.components.proofs.Held.{array-known}
 use Rattle.components.proofs.Outcomes.{whole as whole-call}
-use Rattle.components.proofs.Component as C
-use Rattle.components.proofs.Component.Laws as C′
+use Rattle.touching.proofs.Component as C
+use Rattle.touching.proofs.Component.Laws as C′
 use Rattle.components.proofs.storing.store as sto
 use Rattle.components.proofs.storing.store.Symbol as sto-def
 use Rattle.components.proofs.storing.store.Symbol.{name as #components·storing·store}

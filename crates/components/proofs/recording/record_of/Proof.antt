@@ -3,7 +3,7 @@ use mathlib.Core.Path.{_≡_, sym, ap, _∙_, subst}
 use Prim.Native.Nat.{ℕ, _-_, _+_, _≤_}
 use native.Mathlib.Omega.{arith}
 use Rattle.components.specs.Label.{alone}
-use Rattle.components.specs.declared.Component.{Component}
+use Rattle.touching.specs.declared.Component.{Component}
 use Rattle.components.proofs.Boxes.{Boxed, boxed-one, boxed-more}
 use Rattle.components.proofs.recording.record_of.Statement.{statement}
 use Rattle.components.proofs.recording.record_of.Tie as tie

@@ -49,10 +49,10 @@ use denote.Triple.Spec.{Meets, tripleOf}
 use denote.Triple.Table.{entered}
 use denote.Triple.Walked.{says, needs, Stays, stay-slice, stay-none, walkOf, goes-slice, goes-none, Walks, ends-at, walked, walk-meets}
 use denote.Exit.{yes}
-use Rattle.components.specs.declared.Component.{Component}
+use Rattle.touching.specs.declared.Component.{Component}
 use Rattle.components.proofs.Held.{elements, roomy}
-use Rattle.components.proofs.Component as T
-use Rattle.components.proofs.Component.Laws as T′
+use Rattle.touching.proofs.Component as T
+use Rattle.touching.proofs.Component.Laws as T′
 use Rattle.components.proofs.storing.store.Key.{name as #components·storing·store}
 use Rattle.components.proofs.storing.store as f
 use Rattle.components.proofs.storing.store.Statement as stated

@@ -7,8 +7,8 @@ use Rattle.mesh.specs.Cells.{mapOf}
 use Rattle.mesh.specs.Marks.{marksOf}
 use Rattle.mesh.specs.Answers.{answerValue}
 use Rattle.mesh.specs.declared.Answer.{Answer}
-use Rattle.components.specs.Components.{howMany}
-use Rattle.components.specs.Entry.{componentsCheck}
+use Rattle.touching.specs.Components.{howMany}
+use Rattle.touching.specs.Entry.{componentsCheck}
 use Rattle.report.proofs.Counted.{components-granted}
 use Rattle.report.proofs.figuring.count_components.Statement.{statement}
 use Rattle.report.proofs.figuring.count_components.Tie as tie

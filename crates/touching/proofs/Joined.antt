@@ -4,29 +4,20 @@ use mathlib.Core.Path.{_≡_, refl, sym, ap, _∙_, subst}
 use mathlib.Core.Logic.{_↔_, _⊎_, inl, inr}
 use mathlib.Core.Bool.{Bool, not, _||_}
 use mathlib.Core.List.{List}
-use Prim.Native.Nat.{ℕ, zero, suc, _-_, _≤_, _<_}
+use Prim.Native.Nat.{ℕ, zero, suc, _≤_, _<_}
 use native.Mathlib.Omega.{arith}
 use lib.Dec.{T, eqb, leb, nleb→lt, leb→le, eqb-refl}
 use lib.ListN.{length, List·getD-eq-default}
 use Rattle.mesh.specs.Tools.{table}
-use Rattle.mesh.specs.Mesh.{Axis, X, Y, Z, placeOf}
+use Rattle.mesh.specs.Mesh.{placeOf}
 use Rattle.mesh.proofs.Tests.{T-or, T-eq, tried}
 use Rattle.mesh.specs.declared.Sizes.{Sizes}
-use Rattle.mesh.specs.declared.Place.{Place}
-use Rattle.components.specs.Lists.{isIn, keep}
-use Rattle.components.specs.Touch.{unsafe, unsafeNodes, apart, touch, touching, Joined, itself, further, near, grown, component, joined}
-use Rattle.components.proofs.Lists.{T-any-of, T-keep, keep-few, keep-tight, keep-ext, T-table, Ascending, keep-ascends, table-ascends}
+use Rattle.touching.specs.Lists.{isIn, keep}
+use Rattle.touching.specs.Touch.{unsafe, unsafeNodes, touching, Joined, itself, further, near, grown, component, joined}
+use Rattle.touching.proofs.Lists.{T-any-of, T-keep, keep-few, keep-tight, keep-ext, T-table, Ascending, keep-ascends, table-ascends}
+use Rattle.touching.proofs.Eighteen.{touch-sym}
 
--- ---- touching goes both ways
-
-apart-sym : (p q : Place) (a : Axis) → apart p q a ≡ apart q p a
-apart-sym p q X = omega arith
-apart-sym p q Y = omega arith
-apart-sym p q Z = omega arith
-
-pub touch-sym : (p q : Place) → touch p q ≡ touch q p
-unfolding touch
-touch-sym p q = rw (apart-sym p q X, apart-sym p q Y, apart-sym p q Z)
+-- ---- joined goes both ways and on
 
 module _ (S : Sizes) (marks : List ℕ) where
   pub joined-trans : {a b c : ℕ} → Joined S marks a b → Joined S marks b c → Joined S marks a c

@@ -13,11 +13,11 @@ use Rattle.mesh.specs.Answers.{checkMap}
 use Rattle.mesh.specs.declared.Refusal.{Refusal}
 use Rattle.mesh.specs.declared.Numbered.{Numbered}
 use Rattle.mesh.specs.declared.Numbered.the-variants.{Number, NotNumbered}
-use Rattle.components.specs.Lists.{anyOf, keep, least, greatest}
-use Rattle.components.specs.Touch.{unsafeNodes, touch, grown, component}
-use Rattle.components.specs.Components.{lowest, lowestNodes, numberAmong, tableOf, recordOf, recordsOf, howMany}
-use Rattle.components.specs.Entry.{componentsCheck, componentsAnswer, componentsTable, componentsRow, tableWritten, rowWritten}
-use Rattle.components.specs.declared.Component.{Component}
+use Rattle.touching.specs.Lists.{anyOf, keep, least, greatest}
+use Rattle.touching.specs.Touch.{unsafeNodes, touch, grown, component}
+use Rattle.touching.specs.Components.{lowest, lowestNodes, numberAmong, tableOf, recordOf, recordsOf, howMany}
+use Rattle.touching.specs.Entry.{componentsCheck, componentsAnswer, componentsTable, componentsRow, tableWritten, rowWritten}
+use Rattle.touching.specs.declared.Component.{Component}
 
 -- "3 × 3 × 1 with (1,0), (0,1), (2,1), (1,2) faulty": one component of seven; nine working nodes: none
 abbrev pub cross : List ℕ

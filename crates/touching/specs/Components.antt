@@ -7,9 +7,9 @@ use lib.Dec.{eqb, leb}
 use Rattle.mesh.specs.Tools.{table}
 use Rattle.mesh.specs.Mesh.{Axis, X, Y, Z, on, placeOf}
 use Rattle.mesh.specs.declared.Sizes.{Sizes}
-use Rattle.components.specs.Lists.{isIn, keep, least, greatest}
-use Rattle.components.specs.Touch.{unsafeNodes, component}
-use Rattle.components.specs.declared.Component.{Component}
+use Rattle.touching.specs.Lists.{isIn, keep, least, greatest}
+use Rattle.touching.specs.Touch.{unsafeNodes, component}
+use Rattle.touching.specs.declared.Component.{Component}
 
 -- the lowest node of a's component: the first, since it ascends
 unfoldable pub lowest : Sizes → List ℕ → ℕ → ℕ

@@ -1,5 +1,5 @@
 -- 01, "Components", as relations: what is promised of the number of components, the table of numbers and the row of records.
--- proofs/Promise.antt shows that the definitions keep it, and that nothing else does. Assumes nothing.
+-- proofs/Records.antt shows that the definitions keep it, and that nothing else does. Assumes nothing.
 use mathlib.Core.Bool.{not}
 use mathlib.Core.List.{List}
 use mathlib.Core.Logic.{_↔_}
@@ -10,9 +10,9 @@ use lib.Dec.{T, eqb}
 use Rattle.mesh.specs.Tools.{count}
 use Rattle.mesh.specs.Mesh.{Axis, X, Y, Z}
 use Rattle.mesh.specs.declared.Sizes.{Sizes}
-use Rattle.components.specs.Touch.{unsafe, Joined}
-use Rattle.components.specs.Components.{coordinate}
-use Rattle.components.specs.declared.Component.{Component}
+use Rattle.touching.specs.Touch.{unsafe, Joined}
+use Rattle.touching.specs.Components.{coordinate}
+use Rattle.touching.specs.declared.Component.{Component}
 
 -- a is the lowest node of its component
 pub record Lowest (S : Sizes) (marks : List ℕ) (a : ℕ) : Type 0 where

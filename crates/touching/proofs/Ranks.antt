@@ -7,8 +7,8 @@ use native.Mathlib.Omega.{arith}
 use lib.Dec.{T, leb, leb→le, le→leb, nleb→lt}
 use lib.ListN.{length, getD}
 use Rattle.mesh.proofs.Tests.{tried}
-use Rattle.components.specs.Lists.{isIn, keep}
-use Rattle.components.proofs.Lists.{T-in, in-first, in-none, keep-yes, T-keep, keep-few, keep-tight, Ascending}
+use Rattle.touching.specs.Lists.{isIn, keep}
+use Rattle.touching.proofs.Lists.{T-in, in-first, in-none, keep-yes, T-keep, keep-few, keep-tight, Ascending}
 
 abbrev pub rank : List ℕ → ℕ → ℕ
 rank l a = length (keep (λ k. leb k a) l)

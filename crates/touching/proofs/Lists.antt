@@ -10,7 +10,7 @@ use lib.ListN.{length, getD}
 use Rattle.mesh.specs.Tools.{bit, table, sum, count}
 use Rattle.mesh.proofs.Tests.{T-or, T-eq, holds-true, tried}
 use Rattle.mesh.proofs.Tables.{sum-first}
-use Rattle.components.specs.Lists.{anyOf, isIn, keepIf, keep}
+use Rattle.touching.specs.Lists.{anyOf, isIn, keepIf, keep}
 
 -- ---- what is in a list
 

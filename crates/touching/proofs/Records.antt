@@ -12,16 +12,16 @@ use Rattle.mesh.specs.Tools.{table, count}
 use Rattle.mesh.specs.Mesh.{Axis, X, Y, Z}
 use Rattle.mesh.proofs.Tests.{T-and, T-eq, tried}
 use Rattle.mesh.specs.declared.Sizes.{Sizes}
-use Rattle.components.specs.Lists.{isIn, least, greatest}
-use Rattle.components.specs.Touch.{unsafe, unsafeNodes, component}
-use Rattle.components.specs.Components.{tableOf, coordinate, recordOf, recordsOf, howMany}
-use Rattle.components.specs.Promise.{Extent, Records, Promise}
-use Rattle.components.specs.declared.Component.{Component}
-use Rattle.components.proofs.Lists.{keep-ext, keep-keep, keep-count}
-use Rattle.components.proofs.Ranks.{at-in}
-use Rattle.components.proofs.Extremes.{least-le, least-met, greatest-le, greatest-met}
-use Rattle.components.proofs.Joined.{T-component, component-kept, end-unsafe}
-use Rattle.components.proofs.Numbers.{firsts, T-first, table-size, number-safe, first-number, numbers, numbers-only}
+use Rattle.touching.specs.Lists.{isIn, least, greatest}
+use Rattle.touching.specs.Touch.{unsafe, unsafeNodes, component}
+use Rattle.touching.specs.Components.{tableOf, coordinate, recordOf, recordsOf, howMany}
+use Rattle.touching.specs.Promise.{Extent, Records, Promise}
+use Rattle.touching.specs.declared.Component.{Component}
+use Rattle.touching.proofs.Lists.{keep-ext, keep-keep, keep-count}
+use Rattle.touching.proofs.Ranks.{at-in}
+use Rattle.touching.proofs.Extremes.{least-le, least-met, greatest-le, greatest-met}
+use Rattle.touching.proofs.Joined.{T-component, component-kept, end-unsafe}
+use Rattle.touching.proofs.Numbers.{firsts, T-first, table-size, number-safe, first-number, numbers, numbers-only}
 
 getD-map-in : {A : Type 0} (f : ℕ → A) (l : List ℕ) (i : ℕ) (c : A) → i < length l → getD (map f l) i c ≡ f (getD l i 0)
 getD-map-in f [] i c h = absurd (omega arith)

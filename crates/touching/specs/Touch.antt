@@ -9,7 +9,7 @@ use Rattle.mesh.specs.Tools.{between, table}
 use Rattle.mesh.specs.Mesh.{Axis, X, Y, Z, on, every, placeOf}
 use Rattle.mesh.specs.declared.Sizes.{Sizes}
 use Rattle.mesh.specs.declared.Place.{Place}
-use Rattle.components.specs.Lists.{anyOf, isIn, keep}
+use Rattle.touching.specs.Lists.{anyOf, isIn, keep}
 
 -- "A node is unsafe if its byte is not 0."
 abbrev pub unsafe : List ℕ → ℕ → Bool

@@ -9,8 +9,8 @@ use Rattle.mesh.specs.Answers.{granted, numbered, _andThen_, checkMap, checkOri
 use Rattle.mesh.specs.declared.Sizes.{Sizes}
 use Rattle.mesh.specs.declared.Answer.{Answer}
 use Rattle.mesh.specs.declared.Numbered.{Numbered}
-use Rattle.components.specs.Components.{tableOf, recordsOf, howMany}
-use Rattle.components.specs.declared.Component.{Component}
+use Rattle.touching.specs.Components.{tableOf, recordsOf, howMany}
+use Rattle.touching.specs.declared.Component.{Component}
 
 -- refusals 1, 2, 4, 5, 3, in this order; 3 if the table or the row of records is short
 unfoldable pub componentsCheck : Sizes → List ℕ → ℕ → ℕ → ℕ → Answer

@@ -7,8 +7,8 @@ use native.Mathlib.Omega.{arith}
 use native.Mathlib.Nat.{min-eq-left, min-eq-right, max-eq-left, max-eq-right}
 use lib.Dec.{T, leb, leb→le, nleb→lt}
 use Rattle.mesh.proofs.Tests.{tried}
-use Rattle.components.specs.Lists.{isIn, foldedBy, least, greatest}
-use Rattle.components.proofs.Lists.{T-in, in-first, in-none}
+use Rattle.touching.specs.Lists.{isIn, foldedBy, least, greatest}
+use Rattle.touching.proofs.Lists.{T-in, in-first, in-none}
 
 -- of two, `pick` takes one that bounds both
 record Bounds (pick : ℕ → ℕ → ℕ) (R : ℕ → ℕ → Type 0) : Type 0 where

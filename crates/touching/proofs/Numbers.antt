@@ -14,14 +14,14 @@ use Rattle.mesh.specs.Tools.{table}
 use Rattle.mesh.proofs.Tests.{T-eq, tried, cond-true, cond-false}
 use Rattle.mesh.proofs.Tables.{length-table, getD-table}
 use Rattle.mesh.specs.declared.Sizes.{Sizes}
-use Rattle.components.specs.Lists.{isIn, keep}
-use Rattle.components.specs.Touch.{unsafe, unsafeNodes, Joined, itself, component}
-use Rattle.components.specs.Components.{lowest, lowestNodes, numberAmong, tableOf, howMany}
-use Rattle.components.specs.Promise.{Lowest, Numbers}
-use Rattle.components.proofs.Lists.{T-keep, keep-few, Ascending, keep-ascends, first-in, first-lowest}
-use Rattle.components.proofs.Ranks.{rank, rank-pos, rank-few, rank-lt, rank-at, rank-inj, at-in, rank-only}
-use Rattle.components.proofs.Joined.{T-unsafe, unsafe-lt, unsafe-ascends, component-ascends, end-unsafe, joined-trans, joined-sym, T-component}
-use Rattle.components.proofs.Joined.{component-same}
+use Rattle.touching.specs.Lists.{isIn, keep}
+use Rattle.touching.specs.Touch.{unsafe, unsafeNodes, Joined, itself, component}
+use Rattle.touching.specs.Components.{lowest, lowestNodes, numberAmong, tableOf, howMany}
+use Rattle.touching.specs.Promise.{Lowest, Numbers}
+use Rattle.touching.proofs.Lists.{T-keep, keep-few, Ascending, keep-ascends, first-in, first-lowest}
+use Rattle.touching.proofs.Ranks.{rank, rank-pos, rank-few, rank-lt, rank-at, rank-inj, at-in, rank-only}
+use Rattle.touching.proofs.Joined.{T-unsafe, unsafe-lt, unsafe-ascends, component-ascends, end-unsafe, joined-trans, joined-sym, T-component}
+use Rattle.touching.proofs.Joined.{component-same}
 
 module _ (S : Sizes) (marks : List ℕ) where
   -- the lowest node of a's component, and all lowest nodes

@@ -1,0 +1,9 @@
+pub mod Lists
+pub mod Ranks
+pub mod Eighteen
+pub mod Joined
+pub mod Numbers
+pub mod Extremes
+pub mod Records
+pub mod Counts
+pub mod Impostors

@@ -1,0 +1,5 @@
+pub mod Lists
+pub mod Touch
+pub mod Components
+pub mod Promise
+pub mod Entry
