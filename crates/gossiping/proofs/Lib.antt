@@ -1,11 +1,3 @@
-pub mod Coming
-pub mod Visited
-pub mod Going
-pub mod Counted
-pub mod Figures
-pub mod Full
-pub mod Led
-pub mod Settled
 pub mod Turns
 pub mod Texts
 pub mod Read

@@ -14,13 +14,13 @@ use Rattle.talk.specs.Hear.{outstanding}
 use Rattle.talk.proofs.Same.{outstanding-in}
 use Rattle.text.specs.Text.{Said}
 use Rattle.text.proofs.Saying.{said-none, said-next, said-as}
-use Rattle.gossiping.specs.Chance.{seed}
-use Rattle.gossiping.specs.Links.{links, Net, net, Going}
-use Rattle.gossiping.specs.Rounds.{oneRound, afterRounds}
-use Rattle.gossiping.specs.Figures.{marksHeld, outstandingAfter, settledFrom, longest, settledAt}
+use Rattle.rounds.specs.Chance.{seed}
+use Rattle.rounds.specs.Links.{links, Net, net, Going}
+use Rattle.rounds.specs.Rounds.{oneRound, afterRounds}
+use Rattle.rounds.specs.Figures.{marksHeld, outstandingAfter, settledFrom, longest, settledAt}
 use Rattle.gossiping.specs.Text.{roundLine, roundLines}
-use Rattle.gossiping.proofs.Led.{going}
-use Rattle.gossiping.proofs.Settled.{settled-here, settled-on, sound-at, last-settled}
+use Rattle.rounds.proofs.Led.{going}
+use Rattle.rounds.proofs.Settled.{settled-here, settled-on, sound-at, last-settled}
 
 -- after r rounds of which all but the last is told from `at` on, where `old` was: the text is now `out`, and goes on at `next`
 pub record Turn (m : Map) (o at : ℕ) (old state way out : List ℕ) (drawn r next : ℕ) : Type 0 where

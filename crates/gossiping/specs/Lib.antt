@@ -1,6 +1,1 @@
-pub mod Chance
-pub mod Links
-pub mod Rounds
-pub mod Figures
-pub mod Promise
 pub mod Text

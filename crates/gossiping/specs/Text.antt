@@ -13,8 +13,8 @@ use Rattle.text.specs.Text.{ascii, told}
 use Rattle.report.specs.Counts.{faultyCount}
 use Rattle.report.specs.Report.{firstLine, orientations, refusalLine, largest}
 use Rattle.talk.specs.Promise.{workers, enoughRounds}
-use Rattle.gossiping.specs.Rounds.{lossyRounds}
-use Rattle.gossiping.specs.Figures.{outstandingAfter, marksAfter, settledAt}
+use Rattle.rounds.specs.Rounds.{lossyRounds}
+use Rattle.rounds.specs.Figures.{outstandingAfter, marksAfter, settledAt}
 
 -- which rounds have loss
 abbrev pub legend : List ℕ

@@ -1,5 +1,5 @@
 // The lines that are printed.
-use crate::rounds::LOSSY_ROUNDS;
+use rounds::rounds::LOSSY_ROUNDS;
 use text::tell;
 ghost use Prim.Native.Nat.{_+_, _≤_};
 ghost use lib.ListN.{length};

@@ -1,12 +1,12 @@
 // The rounds of one orientation, from the fresh state until nothing is outstanding.
 use crate::Ended;
 use crate::Told;
-use crate::chance::SEED;
-use crate::figuring::marks_held;
-use crate::figuring::news;
 use crate::lines::round_line;
-use crate::rounds::one_round;
 use mesh::Sizes;
+use rounds::chance::SEED;
+use rounds::figuring::marks_held;
+use rounds::figuring::news;
+use rounds::rounds::one_round;
 ghost use mathlib.Core.Path.{_≡_};
 ghost use Prim.Native.Nat.{suc, _+_, _≤_};
 ghost use lib.ListN.{length, replicate};
@@ -16,8 +16,8 @@ ghost use Rattle.mesh.specs.declared.Answer.the-variants.{Done};
 ghost use Rattle.talk.specs.Sound.{fresh};
 ghost use Rattle.talk.specs.Hear.{outstanding};
 ghost use Rattle.text.specs.Text.{Said};
-ghost use Rattle.gossiping.specs.Links.{links, Fit};
-ghost use Rattle.gossiping.specs.Figures.{marksHeld, settledAt};
+ghost use Rattle.rounds.specs.Links.{links, Fit};
+ghost use Rattle.rounds.specs.Figures.{marksHeld, settledAt};
 ghost use Rattle.gossiping.specs.Text.{roundLine, roundLines};
 
 // The line on the state after r rounds.

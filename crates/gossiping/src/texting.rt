@@ -1,9 +1,7 @@
 // The text for a map file.
-use crate::figuring::working;
 use crate::lines::legend;
 use crate::lines::settled_line;
 use crate::lines::start_line;
-use crate::rounds::links;
 use crate::talking::talk;
 use field::entry::fresh;
 use mapfile::MapRead;
@@ -13,6 +11,8 @@ use report::counting::count_faulty;
 use report::lines::first_line;
 use report::reporting::orientations;
 use report::reporting::report;
+use rounds::figuring::working;
+use rounds::rounds::links;
 ghost use mathlib.Core.Path.{_≡_};
 ghost use Prim.Native.Nat.{_+_, _≤_};
 ghost use lib.ListN.{length, replicate};

@@ -20,13 +20,13 @@ module _ (file : List ℕ) (room : ℕ) (S : Sizes) (is : readAnswer file room �
   unfolding readAnswer
   granted = read-as (readCheck file room) (sizesIn file) S .0 is
 
-  pub in-order : checkMap S (cellsIn file) ≡ Done
+  in-order : checkMap S (cellsIn file) ≡ Done
   in-order = subst (λ (Z : Sizes). checkMap Z (cellsIn file) ≡ Done) (granted .1) (read-ordered file room (granted .0))
 
-  pub in-range : InRange S
+  in-range : InRange S
   in-range = map-granted S (cellsIn file) in-order .sized
 
-  pub in-front : (old : List ℕ) → length old ≡ room → take (nodes S) (readOut file old) ≡ cellsIn file
+  in-front : (old : List ℕ) → length old ≡ room → take (nodes S) (readOut file old) ≡ cellsIn file
   in-front old e =
       let done : readCheck file (length old) ≡ Done = ap (readCheck file) e ∙ granted .0 in
       subst (λ (Z : Sizes). take (nodes Z) (readOut file old) ≡ cellsIn file) (granted .1) (read-front file old done)

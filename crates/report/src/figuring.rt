@@ -14,12 +14,6 @@ ghost use Rattle.mesh.specs.declared.Answer.the-variants.{Done};
 ghost use Rattle.touching.specs.Components.{howMany};
 ghost use Rattle.report.specs.Counts.{figuresOf};
 
-pub fn blank_cells() -> [u8; 4096]
-    ensures { λ r. ⌜ length r ≡ 4096 ⌝ }
-{
-    [0; 4096]
-}
-
 fn blank_table() -> [u16; 4096]
     ensures { λ r. ⌜ length r ≡ 4096 ⌝ }
 {
@@ -41,7 +35,7 @@ pub fn figures(s: Sizes, cells: &[u8], o: usize) -> Figures
     requires { ⌜ (checkMap s (now cells) ≡ Done) × (o ≤ 7) ⌝ }
     ensures { λ r. ⌜ r ≡ figuresOf (mapOf s (now (cells .entry))) o ⌝ }
 {
-    let mut marked = blank_cells();
+    let mut marked = io::buffer();
     marks(s, cells, o, &mut marked);
     let n = s.nodes();
     let useless = count_marked(&marked[..n], 2);

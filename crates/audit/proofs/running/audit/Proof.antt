@@ -1,21 +1,17 @@
 -- `audit::running::audit` is safe and ends. Assumes nothing.
-use mathlib.Core.Path.{sym, ap, _∙_}
+use mathlib.Core.Path.{sym}
 use native.Mathlib.Omega.{arith}
 use borrow.Author.Needs.{needs}
-use denote.Ref.{now}
 use lib.Seq.{length-take-le}
-use Rattle.mapfile.specs.Entry.{readAnswer}
-use Rattle.mapfile.proofs.Read.{in-range}
+use Rattle.mapfile.proofs.Read.{has-read}
 use Rattle.audit.proofs.running.audit.Statement.{statement}
 use Rattle.audit.proofs.running.audit.Tie as tie
 
 nodes-requires : tie.Need-nodes-requires
 nodes-requires c κs =
     let read = c .before .before .before .before in
-    let made = read .before .before .before in
-    let file = now (made .before .before .before .args .map) in
-    in-range file 4096 (c .before .s .given .0 .0)
-    (ap (readAnswer file) (made .buffer .ensures) ∙ sym (read .read-map .ensures .0) ∙ c .before .s .given .1)
+    let room = read .before .before .before .buffer in
+    has-read (room .result) (room .ensures) (read .read-map .ensures) (c .before .s .given .1) .sized
 
 slice-aggregate-print-audit : tie.Need-slice-aggregate-print-audit
 slice-aggregate-print-audit c =

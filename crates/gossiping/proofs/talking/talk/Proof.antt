@@ -8,7 +8,7 @@ use Rattle.mesh.specs.Mesh.{InRange}
 use Rattle.mesh.specs.Cells.{Map, mapOf}
 use Rattle.mesh.proofs.Answers.{map-granted}
 use Rattle.text.proofs.Saying.{said-as}
-use Rattle.gossiping.specs.Figures.{longest}
+use Rattle.rounds.specs.Figures.{longest}
 use Rattle.gossiping.specs.Text.{roundLines}
 use Rattle.gossiping.proofs.Turns.{Turn, turn-first, turn-going, turn-told, turn-last, turn-more, turn-next}
 use Rattle.gossiping.proofs.talking.talk.Statement.{statement}

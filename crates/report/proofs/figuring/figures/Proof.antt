@@ -25,7 +25,7 @@ in-front c =
     let cells = now (s .args .cells) in
     ap (λ (n : ℕ). take n (c .before .before .marks .last .1 .1 .1 .0)) (c .nodes .ensures .0)
     ∙ ap (take (nodes (s .args .s))) (c .before .before .marks .ensures .1)
-    ∙ marks-front (s .args .s) cells (s .pre .0) (s .args .o) (s .pre .1) (made .blank-cells .result) (made .blank-cells .ensures)
+    ∙ marks-front (s .args .s) cells (s .pre .0) (s .args .o) (s .pre .1) (made .buffer .result) (sym (made .buffer .ensures))
 
 as-many : (c : tie.After-nodes) → c .nodes .result ≡ length (take (c .nodes .result) (c .before .before .marks .last .1 .1 .1 .0))
 as-many c =

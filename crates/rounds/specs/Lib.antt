@@ -1,0 +1,5 @@
+pub mod Chance
+pub mod Links
+pub mod Rounds
+pub mod Figures
+pub mod Promise
