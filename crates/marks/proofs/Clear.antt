@@ -21,10 +21,11 @@ use Rattle.mesh.proofs.Bits.{bit-le}
 use Rattle.mesh.proofs.Numbers.{room}
 use Rattle.mesh.proofs.Left.{flip-lt}
 use Rattle.mesh.specs.declared.Sizes.{Sizes}
-use Rattle.marks.specs.Sweep.{inner, Apart, Swept}
-use Rattle.marks.proofs.Turns.{or-false}
-use Rattle.marks.proofs.Rows.{none-or, withLeft, aheadZ, rows-layer, shut-row}
-use Rattle.marks.proofs.Layers.{two-rows, rows-all, Bare, edge-y, swept-on}
+use Rattle.layers.specs.Sweep.{Swept}
+use Rattle.marks.specs.Clear.{inner, Apart}
+use Rattle.layers.proofs.Turns.{or-false}
+use Rattle.layers.proofs.Rows.{none-or, withLeft, aheadZ, rows-layer, shut-row}
+use Rattle.layers.proofs.Layers.{two-rows, rows-all, Bare, edge-y, swept-on}
 
 -- ---- one place more is looked at
 

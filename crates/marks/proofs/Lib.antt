@@ -1,6 +1,3 @@
-pub mod Turns
-pub mod Rows
-pub mod Layers
 pub mod Clear
 pub mod Answer
 pub mod Written

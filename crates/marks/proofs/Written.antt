@@ -18,8 +18,8 @@ use Rattle.mesh.proofs.Marks.{marks-length, marks-at}
 use Rattle.mesh.specs.declared.Sizes.{Sizes}
 use Rattle.mesh.specs.declared.Place.{Place}
 use Rattle.marks.specs.Entry.{marksWritten}
-use Rattle.marks.specs.Sweep.{Right, Stretch, Room}
-use Rattle.marks.specs.Join.{markOf, markFrom, Bytes, Joined}
+use Rattle.layers.specs.Sweep.{Right, Stretch, Room}
+use Rattle.layers.specs.Join.{markOf, markFrom, Bytes, Joined}
 
 -- ---- what is to be written
 

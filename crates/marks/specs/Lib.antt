@@ -1,4 +1,3 @@
 pub mod Entry
-pub mod Sweep
-pub mod Join
+pub mod Clear
 pub mod Promise

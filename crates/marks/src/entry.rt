@@ -1,6 +1,6 @@
 // The call for the marks of a map. It takes every input.
-use crate::join::join;
 use crate::sweep::sweep;
+use layers::join::join;
 use mesh::Answer;
 use mesh::Refusal;
 use mesh::Sizes;
@@ -9,7 +9,7 @@ ghost use mathlib.Core.Path.{_≡_};
 ghost use Prim.Native.Nat.{_≤_};
 ghost use lib.ListN.{length};
 ghost use Rattle.marks.specs.Entry.{marksAnswer, marksWritten, marksOut};
-ghost use Rattle.marks.specs.Sweep.{Room};
+ghost use Rattle.layers.specs.Sweep.{Room};
 
 // Refusals 1, 2, 4, 5 and 3.
 fn marks_answer(s: Sizes, cells: &[u8], orientation: usize, room: usize) -> Answer

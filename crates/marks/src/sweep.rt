@@ -1,7 +1,7 @@
 // The sweep: which nodes are shut, that is faulty or stuck, layer by layer from the end ahead.
-use crate::layer::ahead_z;
-use crate::layer::coordinate;
-use crate::layer::rows;
+use layers::layer::ahead_z;
+use layers::layer::coordinate;
+use layers::layer::rows;
 use mesh::Place;
 use mesh::Sizes;
 use mesh::cells::faulty_bit;
@@ -15,7 +15,8 @@ ghost use Rattle.mesh.specs.Tools.{bit};
 ghost use Rattle.mesh.specs.Mesh.{InRange, nodes};
 ghost use Rattle.mesh.specs.Cells.{mapOf, faultyCell};
 ghost use Rattle.mesh.specs.Fill.{Filled};
-ghost use Rattle.marks.specs.Sweep.{inner, Apart, Swept, Stretch, Room};
+ghost use Rattle.layers.specs.Sweep.{Swept, Stretch, Room};
+ghost use Rattle.marks.specs.Clear.{inner, Apart};
 
 // Each node's byte: 1 where it is faulty, else 0.
 fn lay(cells: &[u8], out: &mut [u8], n: usize)

@@ -5,7 +5,7 @@ use native.Mathlib.Omega.{arith}
 use borrow.Author.Needs.{needs}
 use denote.Ref.{now}
 use Rattle.mesh.proofs.Numbers.{nodes-le}
-use Rattle.marks.specs.Join.{Joined}
+use Rattle.layers.specs.Join.{Joined}
 use Rattle.marks.proofs.Written.{swept-bytes, written}
 use Rattle.marks.proofs.entry.mark_all.Statement.{statement}
 use Rattle.marks.proofs.entry.mark_all.Tie as tie

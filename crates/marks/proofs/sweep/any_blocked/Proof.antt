@@ -7,7 +7,7 @@ use denote.Ref.{now}
 use Rattle.mesh.specs.Tools.{bit, one}
 use Rattle.mesh.specs.Cells.{mapOf}
 use Rattle.mesh.proofs.Bits.{bit-of}
-use Rattle.marks.specs.Sweep.{Apart}
+use Rattle.marks.specs.Clear.{Apart}
 use Rattle.marks.proofs.Clear.{Begun, all-fit, clear}
 use Rattle.marks.proofs.sweep.any_blocked.Statement.{statement}
 use Rattle.marks.proofs.sweep.any_blocked.Tie as tie

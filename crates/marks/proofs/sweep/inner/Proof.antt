@@ -2,7 +2,7 @@
 use mathlib.Core.Path.{refl}
 use native.Mathlib.Omega.{arith}
 use Rattle.mesh.proofs.Numbers.{layer-le}
-use Rattle.marks.proofs.Layers.{two-rows}
+use Rattle.layers.proofs.Layers.{two-rows}
 use Rattle.marks.proofs.sweep.inner.Statement.{statement}
 use Rattle.marks.proofs.sweep.inner.Tie as tie
 

@@ -4,7 +4,7 @@ use Prim.Native.Nat.{ℕ, _-_, _≤_}
 use native.Mathlib.Omega.{arith}
 use borrow.Author.Tests.{eqb-true, not-false}
 use denote.Ref.{now}
-use Rattle.marks.specs.Sweep.{Apart}
+use Rattle.marks.specs.Clear.{Apart}
 use Rattle.marks.proofs.Clear.{apart-more}
 use Rattle.marks.proofs.sweep.meet.Statement.{statement}
 use Rattle.marks.proofs.sweep.meet.Tie as tie

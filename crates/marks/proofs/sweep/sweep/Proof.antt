@@ -8,8 +8,8 @@ use lib.ListN.{length, getD}
 use Rattle.mesh.specs.Tools.{bit}
 use Rattle.mesh.specs.Cells.{mapOf, faultyCell}
 use Rattle.mesh.specs.Fill.{Filled}
-use Rattle.marks.specs.Sweep.{Stretch}
-use Rattle.marks.proofs.Layers.{laid, edge-le, layers-first, flat-first, stretch-more}
+use Rattle.layers.specs.Sweep.{Stretch}
+use Rattle.layers.proofs.Layers.{laid, edge-le, layers-first, flat-first, stretch-more}
 use Rattle.marks.proofs.sweep.sweep.Statement.{statement}
 use Rattle.marks.proofs.sweep.sweep.Tie as tie
 

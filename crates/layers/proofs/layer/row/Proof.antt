@@ -5,9 +5,9 @@ use native.Mathlib.Omega.{arith}
 use borrow.Author.Needs.{needs}
 use denote.Ref.{now}
 use Rattle.mesh.specs.Cells.{Map, mapOf}
-use Rattle.marks.proofs.Rows.{first, first-room, y-ahead, z-ahead, row-done}
-use Rattle.marks.proofs.layer.row.Statement.{statement}
-use Rattle.marks.proofs.layer.row.Tie as tie
+use Rattle.layers.proofs.Rows.{first, first-room, y-ahead, z-ahead, row-done}
+use Rattle.layers.proofs.layer.row.Statement.{statement}
+use Rattle.layers.proofs.layer.row.Tie as tie
 
 abbrev M : tie.Start → Map
 M s = mapOf (s .args .s) (now (s .args .cells))

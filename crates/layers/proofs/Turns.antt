@@ -13,7 +13,7 @@ use Rattle.mesh.specs.Marks.{flip}
 use Rattle.mesh.proofs.Bits.{bit-of, bit-one, bit-le, bit-and, bit-or}
 use Rattle.mesh.proofs.Left.{flip-lt}
 use Rattle.mesh.proofs.Fill.{fill-more}
-use Rattle.marks.specs.Sweep.{rowOf, rowAt, Row, Ahead}
+use Rattle.layers.specs.Sweep.{rowOf, rowAt, Row, Ahead}
 
 -- 0 or 1 joined by the machine's operations is the joined tests' bit
 pub shut-is : (f : Bool) (x y z : ℕ) → x ≤ 1 → y ≤ 1 → z ≤ 1 → bitOr (bit f) (bitAnd (bitAnd x y) z) ≡ bit (f || (one x && one y && one z))

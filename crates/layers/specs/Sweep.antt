@@ -2,7 +2,7 @@
 use mathlib.Core.Bool.{Bool, _&&_, _||_}
 use mathlib.Core.List.{List}
 use mathlib.Core.Path.{_≡_}
-use Prim.Native.Nat.{ℕ, zero, suc, _+_, _-_, _*_, _<_, _≤_}
+use Prim.Native.Nat.{ℕ, zero, suc, _+_, _*_, _<_, _≤_}
 use lib.ListN.{getD, length}
 use Rattle.mesh.specs.Tools.{bit, one}
 use Rattle.mesh.specs.Mesh.{nodes, number, InRange, Inside}
@@ -63,13 +63,3 @@ pub record Room (S : Sizes) (cells out : List ℕ) : Type 0 where
   pub sized : InRange S
   pub cells-long : length cells ≡ nodes S
   pub out-long : nodes S ≤ length out
-
--- ---- a layer in which no node is stuck
-
--- how many nodes of a layer there are from the first to the last that has neighbours ahead on X and Y
-abbrev pub inner : Sizes → ℕ
-inner S = S .w * S .h - S .w - 1
-
--- three stretches of n bytes hold a 1 nowhere at the same place
-abbrev pub Apart : List ℕ → ℕ → ℕ → ℕ → ℕ → Type 0
-Apart l p q r n = (i : ℕ) → i < n → getD l (p + i) 0 ≡ 1 → getD l (q + i) 0 ≡ 1 → getD l (r + i) 0 ≡ 1 → ⊥

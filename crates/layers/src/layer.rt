@@ -11,7 +11,7 @@ ghost use Rattle.mesh.specs.Mesh.{Z, InRange, place, number};
 ghost use Rattle.mesh.specs.Steps.{runsDown};
 ghost use Rattle.mesh.specs.Cells.{mapOf, faultyCell};
 ghost use Rattle.mesh.specs.Marks.{flip};
-ghost use Rattle.marks.specs.Sweep.{Ahead, Row, Swept, Stretch, Room};
+ghost use Rattle.layers.specs.Sweep.{Ahead, Row, Swept, Stretch, Room};
 
 // The coordinate with a steps left on an axis of n.
 pub fn coordinate(down: bool, n: usize, a: usize) -> usize

@@ -1,7 +1,7 @@
 -- `marks::layer::coordinate` meets its contract. Assumes nothing.
 use borrow.Author.Needs.{needs}
-use Rattle.marks.proofs.layer.coordinate.Statement.{statement}
-use Rattle.marks.proofs.layer.coordinate.Tie as tie
+use Rattle.layers.proofs.layer.coordinate.Statement.{statement}
+use Rattle.layers.proofs.layer.coordinate.Tie as tie
 
 returns-2 : tie.Need-returns-2
 returns-2 c = (rw (c .if1 .left), search needs)

@@ -1,8 +1,8 @@
 -- `marks::join::mark_byte` meets its contract. Assumes nothing.
 use mathlib.Core.Path.{_∙_, sym}
 use borrow.Author.Needs.{needs}
-use Rattle.marks.proofs.join.mark_byte.Statement.{statement}
-use Rattle.marks.proofs.join.mark_byte.Tie as tie
+use Rattle.layers.proofs.join.mark_byte.Statement.{statement}
+use Rattle.layers.proofs.join.mark_byte.Tie as tie
 
 returns : tie.Need-returns
 returns c = rw (sym (c .before .faulty-cell .ensures) ∙ c .if1 .taken)

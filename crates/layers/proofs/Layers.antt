@@ -18,8 +18,8 @@ use Rattle.mesh.specs.declared.Place.{Place}
 use Rattle.mesh.proofs.Bits.{bit-le}
 use Rattle.mesh.proofs.Numbers.{digit-eq, number-lt}
 use Rattle.mesh.proofs.Left.{to-go-in}
-use Rattle.marks.specs.Sweep.{Right, rowsBefore, Swept, Stretch}
-use Rattle.marks.proofs.Rows.{withLeft, aheadY, aheadZ, shut-row}
+use Rattle.layers.specs.Sweep.{Right, rowsBefore, Swept, Stretch}
+use Rattle.layers.proofs.Rows.{withLeft, aheadY, aheadZ, shut-row}
 
 pub two-rows : (S : Sizes) → InRange S → S .w + S .w ≤ S .w * S .h
 two-rows S r = let e : S .w * 2 ≡ S .w + S .w = omega arith in rw (← e) (mul-le-mul-left (S .w) (r .h-lo))

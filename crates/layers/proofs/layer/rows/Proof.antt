@@ -5,10 +5,10 @@ use native.Mathlib.Omega.{arith}
 use denote.Ref.{now}
 use lib.ListN.{length}
 use Rattle.mesh.specs.Cells.{mapOf}
-use Rattle.marks.specs.Sweep.{Stretch}
-use Rattle.marks.proofs.Layers.{rows-first, rows-all, stretch-more}
-use Rattle.marks.proofs.layer.rows.Statement.{statement}
-use Rattle.marks.proofs.layer.rows.Tie as tie
+use Rattle.layers.specs.Sweep.{Stretch}
+use Rattle.layers.proofs.Layers.{rows-first, rows-all, stretch-more}
+use Rattle.layers.proofs.layer.rows.Statement.{statement}
+use Rattle.layers.proofs.layer.rows.Tie as tie
 
 abbrev Inv-loop : tie.InvT-loop
 Inv-loop s cells out₀ o c h b₀ out b =

@@ -2,8 +2,8 @@
 use mathlib.Core.Path.{_∙_}
 use native.Mathlib.Omega.{arith}
 use borrow.Author.Needs.{needs}
-use Rattle.marks.proofs.layer.ahead_z.Statement.{statement}
-use Rattle.marks.proofs.layer.ahead_z.Tie as tie
+use Rattle.layers.proofs.layer.ahead_z.Statement.{statement}
+use Rattle.layers.proofs.layer.ahead_z.Tie as tie
 
 returns-2 : tie.Need-returns-2
 returns-2 c = (λ e. absurd (omega arith), λ l. c .number .ensures .0 ∙ (rw (c .before .coordinate .ensures .0)))

@@ -5,9 +5,9 @@ use native.Mathlib.Omega.{arith}
 use denote.Ref.{now}
 use lib.ListN.{getD}
 use Rattle.mesh.proofs.Fill.{fill-none, fill-more}
-use Rattle.marks.specs.Join.{Joined}
-use Rattle.marks.proofs.join.join.Statement.{statement}
-use Rattle.marks.proofs.join.join.Tie as tie
+use Rattle.layers.specs.Join.{Joined}
+use Rattle.layers.proofs.join.join.Statement.{statement}
+use Rattle.layers.proofs.join.join.Tie as tie
 
 abbrev Inv-loop : tie.InvT-loop
 Inv-loop cells behind out₀ n i₀ out i = (i ≤ n) × Joined cells behind out₀ out i

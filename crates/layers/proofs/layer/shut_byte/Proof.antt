@@ -1,9 +1,9 @@
 -- `marks::layer::shut_byte` meets its contract: bytes that are 0 or 1 are joined as tests are. Assumes nothing.
 use borrow.Author.Needs.{needs}
 use Rattle.mesh.specs.Cells.{faultyCell}
-use Rattle.marks.proofs.Turns.{shut-is}
-use Rattle.marks.proofs.layer.shut_byte.Statement.{statement}
-use Rattle.marks.proofs.layer.shut_byte.Tie as tie
+use Rattle.layers.proofs.Turns.{shut-is}
+use Rattle.layers.proofs.layer.shut_byte.Statement.{statement}
+use Rattle.layers.proofs.layer.shut_byte.Tie as tie
 
 returns : tie.Need-returns
 returns c =

@@ -5,10 +5,10 @@ use native.Mathlib.Omega.{arith}
 use denote.Ref.{now}
 use Rattle.mesh.specs.Tools.{bit}
 use Rattle.mesh.proofs.Fill.{fill-none}
-use Rattle.marks.specs.Sweep.{rowAt, Row}
-use Rattle.marks.proofs.Turns.{before, before-next, read-bits, row-turn, row-more}
-use Rattle.marks.proofs.layer.row_at.Statement.{statement}
-use Rattle.marks.proofs.layer.row_at.Tie as tie
+use Rattle.layers.specs.Sweep.{rowAt, Row}
+use Rattle.layers.proofs.Turns.{before, before-next, read-bits, row-turn, row-more}
+use Rattle.layers.proofs.layer.row_at.Statement.{statement}
+use Rattle.layers.proofs.layer.row_at.Tie as tie
 
 abbrev Inv-loop : tie.InvT-loop
 Inv-loop cells out₀ w k j l down last₀ a₀ out last a =

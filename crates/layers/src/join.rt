@@ -4,7 +4,7 @@ ghost use mathlib.Core.Path.{_≡_};
 ghost use Prim.Native.Nat.{_≤_};
 ghost use lib.ListN.{length};
 ghost use Rattle.mesh.specs.Cells.{faultyCell};
-ghost use Rattle.marks.specs.Join.{markOf, Bytes, Joined};
+ghost use Rattle.layers.specs.Join.{markOf, Bytes, Joined};
 
 // The mark byte of a node, from what is shut ahead of it and behind it. Both arms are cheap: compiled, it is a selection and no branch.
 fn mark_byte(cell: u8, ahead: u8, behind: u8) -> u8

@@ -19,8 +19,8 @@ use Rattle.mesh.proofs.Numbers.{room, digit-lt, digit-eq, number-lt, number-eq}
 use Rattle.mesh.proofs.Left.{flip-lt, to-go-in, to-go-back}
 use Rattle.mesh.proofs.Marks.{shut-step}
 use Rattle.mesh.specs.declared.Place.{Place}
-use Rattle.marks.specs.Sweep.{rowOf, rowAt, Row, Ahead, Right, rowsBefore, Swept, Stretch}
-use Rattle.marks.proofs.Turns.{or-false}
+use Rattle.layers.specs.Sweep.{rowOf, rowAt, Row, Ahead, Right, rowsBefore, Swept, Stretch}
+use Rattle.layers.proofs.Turns.{or-false}
 
 -- the rows of the layer before
 pub rows-layer : (h b c : ℕ) → 0 < c → b + h * (c - 1) + h ≡ b + h * c
