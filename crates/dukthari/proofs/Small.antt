@@ -31,8 +31,8 @@ use Rattle.routes.specs.Paths.{leads}
 use Rattle.routes.specs.Offered.{offered, reachedAt, reachedCount}
 use Rattle.routes.specs.Entries.{judged, checkEnd, checkEnds, verdictCheck, verdictAnswer, routeLength, routeCheck, routeAnswer, reachedCheck, reachedAnswer}
 use Rattle.routes.proofs.Differences.{hops-le}
-use Rattle.mapfile.specs.Format.{trailerLength, fileLimit, distance, trailerAt, hasMark, sizesIn, distanceIn, cellsIn}
-use Rattle.mapfile.specs.Entry.{mapRead, checkFrame, checkTrailer, readCheck, readAnswer, writeCheck, writeAnswer}
+use Rattle.format.specs.Format.{trailerLength, fileLimit, distance, trailerAt, hasMark, sizesIn, distanceIn, cellsIn}
+use Rattle.format.specs.Entry.{mapRead, checkFrame, checkTrailer, readCheck, readAnswer, writeCheck, writeAnswer}
 use Rattle.field.specs.State.{mapIn, pair, says}
 use Rattle.field.specs.Sound.{sound, within}
 use Rattle.field.specs.Hear.{news, outstandingOn, outstanding}

@@ -2,8 +2,8 @@
 // byte and its component's number, then each component's record. What it must print was written by the independent search program.
 use components::Component;
 use components::entry::compute;
+use format::MapRead;
 use libc::STDIN_FILENO;
-use mapfile::MapRead;
 use mapfile::reader::read_map;
 use marks::entry::marks;
 use mesh::Placed;
