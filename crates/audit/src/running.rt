@@ -3,7 +3,7 @@ use crate::auditing::audit_log;
 use crate::counting::tell_totals;
 use crate::heading::top;
 use crate::words::say_refusal;
-use mapfile::MapRead;
+use format::MapRead;
 use mapfile::reader::read_map;
 use mesh::Sizes;
 ghost use mathlib.Core.Path.{_≡_};

@@ -31,8 +31,8 @@ use Rattle.paths.specs.Paths.{leads}
 use Rattle.paths.specs.Offered.{offered, reachedAt, reachedCount}
 use Rattle.paths.specs.Entries.{judged, checkEnd, checkEnds, verdictCheck, verdictAnswer, routeLength, routeCheck, routeAnswer, reachedCheck, reachedAnswer}
 use Rattle.paths.proofs.Differences.{hops-le}
-use Rattle.mapfile.specs.Format.{trailerLength, fileLimit, distance, trailerAt, hasMark, sizesIn, distanceIn, cellsIn}
-use Rattle.mapfile.specs.Entry.{mapRead, checkFrame, checkTrailer, readCheck, readAnswer, writeCheck, writeAnswer}
+use Rattle.format.specs.Format.{trailerLength, fileLimit, distance, trailerAt, hasMark, sizesIn, distanceIn, cellsIn}
+use Rattle.format.specs.Entry.{mapRead, checkFrame, checkTrailer, readCheck, readAnswer, writeCheck, writeAnswer}
 use Rattle.talk.specs.State.{mapIn, pair, says}
 use Rattle.talk.specs.Sound.{sound, within}
 use Rattle.talk.specs.Hear.{news, outstandingOn, outstanding}

@@ -25,9 +25,9 @@ use Rattle.paths.specs.Entries.{reachedCheck, reachedAnswer, reachedWritten, re
 use Rattle.talk.specs.Sound.{fresh}
 use Rattle.talk.specs.Hear.{changed}
 use Rattle.talk.specs.Entries.{freshAnswer, freshOut, hearAnswer, hearOut}
-use Rattle.mapfile.specs.Format.{sizesIn, distance}
-use Rattle.mapfile.specs.Entry.{mapRead, readCheck, readAnswer, readWritten, readOut}
-use Rattle.mapfile.specs.Entry.{writeCheck, writeAnswer, writeWritten, writeOut}
+use Rattle.format.specs.Format.{sizesIn, distance}
+use Rattle.format.specs.Entry.{mapRead, readCheck, readAnswer, readWritten, readOut}
+use Rattle.format.specs.Entry.{writeCheck, writeAnswer, writeWritten, writeOut}
 use Rattle.dukthari.specs.Answers.{countedFields, mapFields}
 use Rattle.dukthari.proofs.dk_number.Kinds as number-kinds
 use Rattle.dukthari.proofs.dk_number.Reads as number-reads

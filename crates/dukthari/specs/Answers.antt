@@ -21,9 +21,9 @@ use Rattle.dukthari.specs.declared.MapAnswer.{MapAnswer}
 use Rattle.paths.specs.Entries.{verdictNo, verdictBad, verdictHops, verdictOffered}
 use Rattle.paths.specs.declared.Verdict.{Verdict}
 use Rattle.paths.specs.declared.Verdict.the-variants.{Granted, NotGranted}
-use Rattle.mapfile.specs.Entry.{readNo, readBad, readSizes}
-use Rattle.mapfile.specs.declared.MapRead.{MapRead}
-use Rattle.mapfile.specs.declared.MapRead.the-variants.{Read, NotRead}
+use Rattle.format.specs.Entry.{readNo, readBad, readSizes}
+use Rattle.format.specs.declared.MapRead.{MapRead}
+use Rattle.format.specs.declared.MapRead.the-variants.{Read, NotRead}
 use Rattle.mesh.specs.Mesh.{InRange}
 
 -- the number of a place

@@ -4,7 +4,7 @@ use crate::DoneAnswer;
 use crate::MapAnswer;
 use crate::PlaceAnswer;
 use crate::VerdictAnswer;
-use mapfile::MapRead;
+use format::MapRead;
 use mesh::Answer;
 use mesh::Numbered;
 use mesh::Place;

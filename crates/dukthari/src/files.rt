@@ -7,7 +7,7 @@ use crate::fields::sizes_of;
 ghost use mathlib.Core.Path.{_≡_};
 ghost use lib.ListN.{length};
 ghost use Rattle.mesh.specs.Mesh.{sizes};
-ghost use Rattle.mapfile.specs.Entry.{readAnswer, readOut, writeAnswer, writeOut};
+ghost use Rattle.format.specs.Entry.{readAnswer, readOut, writeAnswer, writeOut};
 ghost use Rattle.dukthari.specs.Answers.{countedFields, mapFields};
 
 // Reads a map file. Refusals: 11, 1, 11, 3, 4.

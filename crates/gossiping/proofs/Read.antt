@@ -5,10 +5,10 @@ use Prim.Native.Nat.{ℕ}
 use Rattle.mesh.specs.Cells.{mapOf}
 use Rattle.mesh.specs.declared.Sizes.{Sizes}
 use Rattle.mesh.specs.declared.Refusal.{Refusal}
-use Rattle.mapfile.specs.Format.{cellsIn}
-use Rattle.mapfile.specs.Entry.{readAnswer}
-use Rattle.mapfile.specs.declared.MapRead.{MapRead}
-use Rattle.mapfile.specs.declared.MapRead.the-variants.{Read, NotRead}
+use Rattle.format.specs.Format.{cellsIn}
+use Rattle.format.specs.Entry.{readAnswer}
+use Rattle.format.specs.declared.MapRead.{MapRead}
+use Rattle.format.specs.declared.MapRead.the-variants.{Read, NotRead}
 use Rattle.report.specs.Report.{largest, reportOn, report}
 use Rattle.gossiping.specs.Text.{mapText, textOn, gossip}
 

@@ -4,7 +4,7 @@ use crate::lines::settled_line;
 use crate::lines::start_line;
 use crate::talking::talk;
 use field::entry::fresh;
-use mapfile::MapRead;
+use format::MapRead;
 use mapfile::reader::read_map;
 use mesh::Sizes;
 use report::counting::count_faulty;

@@ -6,6 +6,13 @@ use native.Mathlib.Nat.{zero-add, add-assoc}
 use native.Mathlib.Omega.{arith}
 use lib.ListN.{length, take, drop, length-append, length-drop}
 use lib.Seq.{length-take-le, take-at, drop-at, drop-drop}
+use Rattle.mesh.specs.Mesh.{nodes}
+use Rattle.mesh.specs.declared.Sizes.{Sizes}
+use Rattle.mesh.specs.declared.Answer.the-variants.{Done}
+use Rattle.format.specs.Format.{distance, trailer, cellsIn}
+use Rattle.format.specs.Entry.{readCheck, readWritten, readOut, writeCheck, writeWritten, writeOut}
+use Rattle.format.proofs.Checks.{both-done}
+use Rattle.format.proofs.Refusals.{trailer-says, cells-size, write-says}
 use Rattle.mapfile.specs.Stored.{stored}
 
 module _ (out : List ℕ) (at : ℕ) (bytes : List ℕ) (fits : at + length bytes ≤ length out) where
@@ -36,3 +43,23 @@ module _ (out : List ℕ) (at : ℕ) (bytes : List ℕ) (fits : at + length byte
 
 pub stored-front : (out bytes : List ℕ) → stored out 0 bytes ≡ bytes ++ drop (length bytes) out
 stored-front out bytes = ap (λ (n : ℕ). bytes ++ drop n out) (zero-add (length bytes))
+
+-- what is stored is what the answer says
+pub read-stored : (file out : List ℕ) → readCheck file (length out) ≡ Done → stored out 0 (cellsIn file) ≡ readOut file out
+unfolding readWritten readCheck
+read-stored file out e =
+    let (t, r) = simp both-done at e in
+    rw e (stored-front out (cellsIn file) ∙ ap (λ (n : ℕ). cellsIn file ++ drop n out) (cells-size file (trailer-says file (t .0) .2)))
+
+pub write-stored : (S : Sizes) (cells out : List ℕ) → writeCheck S cells (length out) ≡ Done
+    → stored (stored out 0 cells) (nodes S) (trailer S) ≡ writeOut S cells out
+unfolding writeWritten trailer
+write-stored S cells out e =
+    let q = write-says S cells (length out) e in
+    let at : nodes S ≡ 0 + length cells = omega (arith, q .1) in
+    let size : length (cells ++ trailer S) ≡ distance S = length-append cells (trailer S) ∙ ap (λ (n : ℕ). n + 12) (q .1) in
+    rw e
+    (ap (λ (n : ℕ). stored (stored out 0 cells) n (trailer S)) at
+    ∙ stored-next out 0 cells (omega (arith, q .1, q .2)) (trailer S)
+    ∙ stored-front out (cells ++ trailer S)
+    ∙ ap (λ (n : ℕ). cells ++ trailer S ++ drop n out) size)

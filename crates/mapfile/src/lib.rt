@@ -1,6 +1,4 @@
-// The map file: its reader and its writer. The specs/ have the format and the calls' equations.
-use mesh::Refusal;
-use mesh::Sizes;
+// The map file: its reader and its writer.
 
 pub mod reader;
 pub mod storing;
@@ -13,9 +11,3 @@ pub const MARK: [u8; 4] = *b"FLD1";
 pub const TRAILER: usize = 12;
 
 pub const FILE_LIMIT: usize = 65536;
-
-// The sizes of the map that was read, or a refusal.
-pub enum MapRead {
-    Read(Sizes),
-    NotRead(Refusal),
-}

@@ -1,9 +1,9 @@
 // Reading a map file.
 use crate::FILE_LIMIT;
 use crate::MARK;
-use crate::MapRead;
 use crate::TRAILER;
 use crate::storing::put;
+use format::MapRead;
 use mesh::Answer;
 use mesh::Refusal;
 use mesh::Sizes;
@@ -11,8 +11,8 @@ use mesh::cells::check_map;
 ghost use mathlib.Core.Path.{_≡_};
 ghost use Prim.Native.Nat.{_+_, _-_, _≤_, _<_};
 ghost use lib.ListN.{length, take, drop};
-ghost use Rattle.mapfile.specs.Format.{trailerAt, hasMark, sizesIn, distanceIn};
-ghost use Rattle.mapfile.specs.Entry.{checkFrame, checkTrailer, readCheck, readAnswer, readOut};
+ghost use Rattle.format.specs.Format.{trailerAt, hasMark, sizesIn, distanceIn};
+ghost use Rattle.format.specs.Entry.{checkFrame, checkTrailer, readCheck, readAnswer, readOut};
 
 // Byte i of the trailer.
 fn trailer_at(file: &[u8], i: usize) -> u8

@@ -10,8 +10,8 @@ use mesh::cells::check_map;
 ghost use mathlib.Core.Path.{_≡_};
 ghost use lib.ListN.{length};
 ghost use Rattle.mesh.specs.Mesh.{InRange};
-ghost use Rattle.mapfile.specs.Format.{trailer};
-ghost use Rattle.mapfile.specs.Entry.{writeCheck, writeAnswer, writeOut};
+ghost use Rattle.format.specs.Format.{trailer};
+ghost use Rattle.format.specs.Entry.{writeCheck, writeAnswer, writeOut};
 
 // The trailer.
 fn trailer(s: Sizes) -> [u8; 12]

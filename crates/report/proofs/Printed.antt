@@ -7,8 +7,8 @@ use native.Mathlib.Omega.{arith}
 use Rattle.mesh.specs.Answers.{refusalNo}
 use Rattle.mesh.specs.declared.Refusal.{Refusal}
 use Rattle.mesh.proofs.Numbers.{nodes-le}
-use Rattle.mapfile.specs.Format.{sizesIn}
-use Rattle.mapfile.specs.Promise.{ReadRefused}
+use Rattle.format.specs.Format.{sizesIn}
+use Rattle.format.specs.Promise.{ReadRefused}
 use Rattle.report.specs.Report.{largest}
 
 pub printed : (file : List ℕ) (r : Refusal) → ReadRefused file largest r → (refusalNo r ≡ 11) ⊎ ((refusalNo r ≡ 1) ⊎ (refusalNo r ≡ 4))

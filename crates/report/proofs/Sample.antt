@@ -11,8 +11,8 @@ use Rattle.mesh.specs.Marks.{rule, marked, stuckWithin, stuck, byteOf, markAt, 
 use Rattle.touching.specs.Lists.{anyOf, keep, least}
 use Rattle.touching.specs.Touch.{unsafeNodes, touch, grown, component}
 use Rattle.touching.specs.Components.{lowest, lowestNodes, howMany}
-use Rattle.mapfile.specs.Format.{trailer, fileOf, hasMark, cellsIn}
-use Rattle.mapfile.specs.Entry.{checkFrame, checkTrailer, readCheck, readAnswer}
+use Rattle.format.specs.Format.{trailer, fileOf, hasMark, cellsIn}
+use Rattle.format.specs.Entry.{checkFrame, checkTrailer, readCheck, readAnswer}
 use Rattle.text.specs.Text.{ascii, decimalWithin, told}
 use Rattle.report.specs.Counts.{faultyCount, markedCount}
 use Rattle.report.specs.Report.{orientations, octantLines, report}

@@ -6,10 +6,10 @@ use lib.Dec.{eqb}
 use Rattle.mesh.specs.Cells.{Map, mapOf}
 use Rattle.mesh.specs.Answers.{refusalNo}
 use Rattle.mesh.specs.declared.Sizes.{Sizes}
-use Rattle.mapfile.specs.Format.{cellsIn}
-use Rattle.mapfile.specs.Entry.{readAnswer}
-use Rattle.mapfile.specs.declared.MapRead.{MapRead}
-use Rattle.mapfile.specs.declared.MapRead.the-variants.{Read, NotRead}
+use Rattle.format.specs.Format.{cellsIn}
+use Rattle.format.specs.Entry.{readAnswer}
+use Rattle.format.specs.declared.MapRead.{MapRead}
+use Rattle.format.specs.declared.MapRead.the-variants.{Read, NotRead}
 use Rattle.text.specs.Text.{ascii, told}
 use Rattle.report.specs.Counts.{faultyCount, figuresOf}
 use Rattle.report.specs.declared.Figures.{Figures}

@@ -4,7 +4,7 @@ use crate::figuring::figures;
 use crate::lines::first_line;
 use crate::lines::octant_line;
 use crate::lines::refusal_line;
-use mapfile::MapRead;
+use format::MapRead;
 use mapfile::reader::read_map;
 use mesh::Sizes;
 ghost use mathlib.Core.Path.{_≡_};

@@ -1,8 +1,8 @@
 // Runs the sample that is too large for the table of samples: the map on standard input, in orientation 0. Prints each unsafe node with its mark
 // byte and its component's number, then each component's record. What it must print was written by the independent search program.
 use components::entry::compute;
+use format::MapRead;
 use libc::STDIN_FILENO;
-use mapfile::MapRead;
 use mapfile::reader::read_map;
 use marks::entry::marks;
 use mesh::Placed;

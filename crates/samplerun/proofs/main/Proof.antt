@@ -2,7 +2,7 @@
 use mathlib.Core.List.{List}
 use Prim.Native.Nat.{ℕ}
 use borrow.Author.Needs.{needs}
-use Rattle.mapfile.proofs.Read.{HasRead, has-read}
+use Rattle.format.proofs.Read.{HasRead, has-read}
 use Rattle.samplerun.proofs.main.Statement.{statement}
 use Rattle.samplerun.proofs.main.Tie as tie
 

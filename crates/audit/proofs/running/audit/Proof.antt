@@ -3,7 +3,7 @@ use mathlib.Core.Path.{sym}
 use native.Mathlib.Omega.{arith}
 use borrow.Author.Needs.{needs}
 use lib.Seq.{length-take-le}
-use Rattle.mapfile.proofs.Read.{has-read}
+use Rattle.format.proofs.Read.{has-read}
 use Rattle.audit.proofs.running.audit.Statement.{statement}
 use Rattle.audit.proofs.running.audit.Tie as tie
 

@@ -5,8 +5,8 @@ use Prim.Native.Nat.{ℕ}
 use native.Mathlib.Omega.{arith}
 use denote.Ref.{now}
 use Rattle.mesh.specs.Cells.{mapOf}
-use Rattle.mapfile.specs.Entry.{readAnswer}
-use Rattle.mapfile.proofs.Read.{HasRead, has-read}
+use Rattle.format.specs.Entry.{readAnswer}
+use Rattle.format.proofs.Read.{HasRead, has-read}
 use Rattle.text.proofs.Saying.{said-as}
 use Rattle.gossiping.specs.Text.{mapText}
 use Rattle.gossiping.proofs.Read.{map-told, refusal-told}

@@ -6,9 +6,9 @@ use Rattle.mesh.specs.declared.Sizes.{Sizes}
 use Rattle.mesh.specs.Answers.{checkMap}
 use Rattle.mesh.specs.Mesh.{nodes}
 use Rattle.mesh.specs.declared.Answer.the-variants.{Done}
-use Rattle.mapfile.specs.Format.{sizesIn}
-use Rattle.mapfile.specs.Entry.{checkTrailer}
-use Rattle.mapfile.proofs.Refusals.{trailer-says, read-stands, read-room, read-cells, cells-part}
+use Rattle.format.specs.Format.{sizesIn}
+use Rattle.format.specs.Entry.{checkTrailer}
+use Rattle.format.proofs.Refusals.{trailer-says, read-stands, read-room, read-cells, cells-part}
 use Rattle.mapfile.proofs.reader.check_file.Statement.{statement}
 use Rattle.mapfile.proofs.reader.check_file.Tie as tie
 

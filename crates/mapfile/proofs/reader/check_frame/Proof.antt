@@ -7,8 +7,8 @@ use borrow.Author.Tests.{not-true, not-false}
 use denote.Ref.{now}
 use lib.ListN.{length}
 use Rattle.mesh.specs.Tools.{between}
-use Rattle.mapfile.specs.Format.{fileLimit}
-use Rattle.mapfile.proofs.Refusals.{between-least, frame-outside, frame-inside}
+use Rattle.format.specs.Format.{fileLimit}
+use Rattle.format.proofs.Refusals.{between-least, frame-outside, frame-inside}
 use Rattle.mapfile.proofs.reader.check_frame.Statement.{statement}
 use Rattle.mapfile.proofs.reader.check_frame.Tie as tie
 

@@ -8,9 +8,9 @@ use denote.Ref.{now}
 use Rattle.mesh.specs.Mesh.{inRange, nodes}
 use Rattle.mesh.specs.declared.Answer.the-variants.{Done}
 use Rattle.mesh.proofs.Answers.{sizes-of}
-use Rattle.mapfile.specs.Format.{distance, sizesIn}
-use Rattle.mapfile.specs.Entry.{checkFrame}
-use Rattle.mapfile.proofs.Refusals.{frame-least, trailer-stands, trailer-sizes, trailer-reaches}
+use Rattle.format.specs.Format.{distance, sizesIn}
+use Rattle.format.specs.Entry.{checkFrame}
+use Rattle.format.proofs.Refusals.{frame-least, trailer-stands, trailer-sizes, trailer-reaches}
 use Rattle.mapfile.proofs.reader.check_trailer.Statement.{statement}
 use Rattle.mapfile.proofs.reader.check_trailer.Tie as tie
 

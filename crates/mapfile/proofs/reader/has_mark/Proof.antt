@@ -9,7 +9,7 @@ use denote.Ref.{now}
 use lib.Dec.{eqb}
 use lib.ListN.{getD}
 use Rattle.mesh.proofs.Tests.{T-all, T-eq, holds-true, bool-ext}
-use Rattle.mapfile.specs.Format.{fileMark, trailerAt, hasMark}
+use Rattle.format.specs.Format.{fileMark, trailerAt, hasMark}
 use Rattle.mapfile.proofs.reader.has_mark.Statement.{statement}
 use Rattle.mapfile.proofs.reader.has_mark.Tie as tie
 

@@ -7,12 +7,13 @@ use lib.ListN.{length}
 use Rattle.mesh.specs.Mesh.{nodes}
 use Rattle.mesh.specs.declared.Answer.the-variants.{Done}
 use Rattle.mesh.proofs.Answers.{kept}
-use Rattle.mapfile.specs.declared.MapRead.the-variants.{Read}
+use Rattle.format.specs.declared.MapRead.the-variants.{Read}
+use Rattle.format.specs.Format.{sizesIn}
+use Rattle.format.specs.Entry.{readCheck, readWritten}
+use Rattle.format.proofs.Reading.{Granted, T-granted}
+use Rattle.format.proofs.Refusals.{not-read, is-read, cells-part, cells-size}
 use Rattle.mapfile.specs.Stored.{stored}
-use Rattle.mapfile.specs.Format.{sizesIn}
-use Rattle.mapfile.specs.Entry.{readCheck, readWritten}
-use Rattle.mapfile.proofs.Reading.{Granted, T-granted}
-use Rattle.mapfile.proofs.Refusals.{not-read, is-read, read-stored, cells-part, cells-size}
+use Rattle.mapfile.proofs.Stored.{read-stored}
 use Rattle.mapfile.proofs.reader.read_map.Statement.{statement}
 use Rattle.mapfile.proofs.reader.read_map.Tie as tie
 

@@ -5,7 +5,7 @@ use denote.Ref.{now}
 use Rattle.mesh.specs.declared.Answer.the-variants.{Done}
 use Rattle.mesh.specs.Answers.{checkMap}
 use Rattle.mesh.proofs.Answers.{map-granted}
-use Rattle.mapfile.proofs.Refusals.{write-stands, write-room, write-granted}
+use Rattle.format.proofs.Refusals.{write-stands, write-room, write-granted}
 use Rattle.mapfile.proofs.writer.check_write.Statement.{statement}
 use Rattle.mapfile.proofs.writer.check_write.Tie as tie
 

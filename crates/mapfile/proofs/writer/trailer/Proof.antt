@@ -3,7 +3,7 @@ use mathlib.Core.Path.{ap}
 use mathlib.Core.List.{_∷_, _++_}
 use Prim.Native.Nat.{ℕ, _+_}
 use borrow.Author.Needs.{needs}
-use Rattle.mapfile.specs.Format.{fileMark, fourBytes, trailer}
+use Rattle.format.specs.Format.{fileMark, fourBytes, trailer}
 use Rattle.mapfile.proofs.writer.trailer.Statement.{statement}
 use Rattle.mapfile.proofs.writer.trailer.Tie as tie
 

@@ -10,10 +10,11 @@ use Rattle.mesh.specs.declared.Sizes.{Sizes}
 use Rattle.mesh.specs.declared.Numbered.the-variants.{Number}
 use Rattle.mesh.specs.declared.Answer.the-variants.{Done}
 use Rattle.mesh.proofs.Answers.{kept}
-use Rattle.mapfile.specs.Format.{trailer}
+use Rattle.format.specs.Format.{trailer}
+use Rattle.format.specs.Entry.{writeCheck, writeWritten}
+use Rattle.format.proofs.Refusals.{not-written, is-written, write-says}
 use Rattle.mapfile.specs.Stored.{stored}
-use Rattle.mapfile.specs.Entry.{writeCheck, writeWritten}
-use Rattle.mapfile.proofs.Refusals.{not-written, is-written, write-says, write-stored}
+use Rattle.mapfile.proofs.Stored.{write-stored}
 use Rattle.mapfile.proofs.writer.write_map.Statement.{statement}
 use Rattle.mapfile.proofs.writer.write_map.Tie as tie
 

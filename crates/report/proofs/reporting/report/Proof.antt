@@ -10,11 +10,11 @@ use Rattle.mesh.specs.Cells.{mapOf}
 use Rattle.mesh.specs.Answers.{refusalNo}
 use Rattle.mesh.specs.declared.Sizes.{Sizes}
 use Rattle.mesh.specs.declared.Refusal.{Refusal}
-use Rattle.mapfile.specs.Format.{cellsIn}
-use Rattle.mapfile.specs.Entry.{readAnswer}
-use Rattle.mapfile.specs.declared.MapRead.{MapRead}
-use Rattle.mapfile.specs.declared.MapRead.the-variants.{Read, NotRead}
-use Rattle.mapfile.proofs.Read.{HasRead, has-read}
+use Rattle.format.specs.Format.{cellsIn}
+use Rattle.format.specs.Entry.{readAnswer}
+use Rattle.format.specs.declared.MapRead.{MapRead}
+use Rattle.format.specs.declared.MapRead.the-variants.{Read, NotRead}
+use Rattle.format.proofs.Read.{HasRead, has-read}
 use Rattle.text.proofs.Saying.{said-as}
 use Rattle.report.specs.Report.{mapReport, refusalLine, reportOn, report}
 use Rattle.report.proofs.reporting.report.Statement.{statement}

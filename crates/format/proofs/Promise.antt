@@ -16,15 +16,15 @@ use Rattle.mesh.specs.declared.Numbered.{Numbered}
 use Rattle.mesh.specs.declared.Numbered.the-variants.{Number, NotNumbered}
 use Rattle.mesh.proofs.Answers.{kept}
 use Rattle.mesh.proofs.Granted.{number-stands, number-refused}
-use Rattle.mapfile.specs.Format.{distance, fileOf, MapFile, sizesIn}
-use Rattle.mapfile.specs.Entry.{mapRead, readCheck, readAnswer, readWritten, readOut, writeCheck, writeAnswer, writeWritten, writeOut}
-use Rattle.mapfile.specs.Promise.{ReadRefused, WriteRefused, Reads, Writes}
-use Rattle.mapfile.specs.declared.MapRead.{MapRead}
-use Rattle.mapfile.specs.declared.MapRead.the-variants.{Read, NotRead}
-use Rattle.mapfile.proofs.Refusals.{not-read, not-written}
-use Rattle.mapfile.proofs.Reasons.{read-refused, read-decided, write-refused, write-decided}
-use Rattle.mapfile.proofs.Reading.{read-exactly, read-out}
-use Rattle.mapfile.proofs.Writing.{file-size, written-file}
+use Rattle.format.specs.Format.{distance, fileOf, MapFile, sizesIn}
+use Rattle.format.specs.Entry.{mapRead, readCheck, readAnswer, readWritten, readOut, writeCheck, writeAnswer, writeWritten, writeOut}
+use Rattle.format.specs.Promise.{ReadRefused, WriteRefused, Reads, Writes}
+use Rattle.format.specs.declared.MapRead.{MapRead}
+use Rattle.format.specs.declared.MapRead.the-variants.{Read, NotRead}
+use Rattle.format.proofs.Refusals.{not-read, not-written}
+use Rattle.format.proofs.Reasons.{read-refused, read-decided, write-refused, write-decided}
+use Rattle.format.proofs.Reading.{read-exactly, read-out}
+use Rattle.format.proofs.Writing.{file-size, written-file}
 
 -- ---- reading
 

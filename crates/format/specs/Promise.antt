@@ -14,9 +14,9 @@ use Rattle.mesh.specs.declared.Refusal.{Refusal}
 use Rattle.mesh.specs.declared.Refusal.the-variants.{BadSizes, BadLength, NoRoom, BadCell, BadFile}
 use Rattle.mesh.specs.declared.Numbered.{Numbered}
 use Rattle.mesh.specs.declared.Numbered.the-variants.{Number, NotNumbered}
-use Rattle.mapfile.specs.Format.{fileMark, trailerLength, fileLimit, distance, fileOf, MapFile, trailerAt, sizesIn, distanceIn, cellsIn}
-use Rattle.mapfile.specs.declared.MapRead.{MapRead}
-use Rattle.mapfile.specs.declared.MapRead.the-variants.{Read, NotRead}
+use Rattle.format.specs.Format.{fileMark, trailerLength, fileLimit, distance, fileOf, MapFile, trailerAt, sizesIn, distanceIn, cellsIn}
+use Rattle.format.specs.declared.MapRead.{MapRead}
+use Rattle.format.specs.declared.MapRead.the-variants.{Read, NotRead}
 
 -- "length, mark and zero byte" are right
 pub record Framed (file : List ℕ) : Type 0 where

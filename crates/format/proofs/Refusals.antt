@@ -1,12 +1,12 @@
 -- Which refusal stands, check by check, and what the checks before it have granted. Assumes nothing.
-use mathlib.Core.Path.{_≡_, sym, ap, _∙_}
+use mathlib.Core.Path.{_≡_, sym, _∙_}
 use mathlib.Core.Bool.{Bool, true, false, _&&_}
-use mathlib.Core.List.{List, _++_}
+use mathlib.Core.List.{List}
 use Prim.Native.Nat.{ℕ, _+_, _-_, _≤_, _<_}
 use native.Mathlib.Omega.{arith}
 use borrow.Author.Tests.{lt-leb, le-leb, eq-eqb}
 use lib.Dec.{eqb, leb}
-use lib.ListN.{length, take, drop, length-append, length-take, length-drop}
+use lib.ListN.{length, take, drop, length-take, length-drop}
 use lib.Seq.{take-at}
 use Rattle.mesh.specs.Tools.{between}
 use Rattle.mesh.specs.Mesh.{inRange, InRange, nodes}
@@ -18,13 +18,11 @@ use Rattle.mesh.specs.declared.Answer.the-variants.{Done, Refused}
 use Rattle.mesh.specs.declared.Numbered.the-variants.{Number, NotNumbered}
 use Rattle.mesh.proofs.Answers.{sizes-is}
 use Rattle.mesh.proofs.Tests.{T-and, T-eq, T-le, holds-true}
-use Rattle.mapfile.specs.Stored.{stored}
-use Rattle.mapfile.specs.Format.{fileLimit, distance, trailer, trailerAt, hasMark, sizesIn, distanceIn, cellsIn}
-use Rattle.mapfile.specs.Entry.{checkFrame, checkTrailer, readCheck, readAnswer, readWritten, readOut}
-use Rattle.mapfile.specs.Entry.{writeCheck, writeAnswer, writeWritten, writeOut}
-use Rattle.mapfile.specs.declared.MapRead.the-variants.{Read, NotRead}
-use Rattle.mapfile.proofs.Stored.{stored-next, stored-front}
-use Rattle.mapfile.proofs.Checks.{both-done, unless-done, sizes-done}
+use Rattle.format.specs.Format.{fileLimit, distance, trailer, trailerAt, hasMark, sizesIn, distanceIn, cellsIn}
+use Rattle.format.specs.Entry.{checkFrame, checkTrailer, readCheck, readAnswer, readWritten, readOut}
+use Rattle.format.specs.Entry.{writeCheck, writeAnswer}
+use Rattle.format.specs.declared.MapRead.the-variants.{Read, NotRead}
+use Rattle.format.proofs.Checks.{both-done, unless-done, sizes-done}
 
 pub between-least : (a b n : ℕ) → between a b n ≡ true → a ≤ n
 between-least a b n e = let (l, m) = simp (T-and, T-le) at (holds-true (between a b n) .1 e) in l
@@ -114,13 +112,6 @@ module _ (file : List ℕ) where
       let n = nodes (sizesIn file) in
       rw e (take-at (cellsIn file) (drop n out) n (cells-size (trailer-says (t .0) .2)))
 
-  -- what is stored is what the answer says
-  pub read-stored : (out : List ℕ) → readCheck file (length out) ≡ Done → stored out 0 (cellsIn file) ≡ readOut file out
-  unfolding readWritten readCheck
-  read-stored out e =
-      let (t, r) = simp both-done at e in
-      rw e (stored-front out (cellsIn file) ∙ ap (λ (n : ℕ). cellsIn file ++ drop n out) (cells-size (trailer-says (t .0) .2)))
-
 -- ---- writing: the map, and the room
 
 module _ (S : Sizes) (cells : List ℕ) (room : ℕ) where
@@ -147,16 +138,3 @@ module _ (S : Sizes) (cells : List ℕ) (room : ℕ) where
   pub write-says : writeCheck S cells room ≡ Done → InRange S × (length cells ≡ nodes S) × (distance S ≤ room)
   unfolding writeCheck checkMap
   write-says e = let (((s, l), g), r) = simp (both-done, sizes-done, unless-done, T-eq, T-le) at e in (s, l, r)
-
-pub write-stored : (S : Sizes) (cells out : List ℕ) → writeCheck S cells (length out) ≡ Done
-    → stored (stored out 0 cells) (nodes S) (trailer S) ≡ writeOut S cells out
-unfolding writeWritten trailer
-write-stored S cells out e =
-    let q = write-says S cells (length out) e in
-    let at : nodes S ≡ 0 + length cells = omega (arith, q .1) in
-    let size : length (cells ++ trailer S) ≡ distance S = length-append cells (trailer S) ∙ ap (λ (n : ℕ). n + 12) (q .1) in
-    rw e
-    (ap (λ (n : ℕ). stored (stored out 0 cells) n (trailer S)) at
-    ∙ stored-next out 0 cells (omega (arith, q .1, q .2)) (trailer S)
-    ∙ stored-front out (cells ++ trailer S)
-    ∙ ap (λ (n : ℕ). cells ++ trailer S ++ drop n out) size)

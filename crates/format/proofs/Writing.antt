@@ -10,9 +10,9 @@ use Rattle.mesh.specs.declared.Sizes.{Sizes}
 use Rattle.mesh.specs.declared.Answer.the-variants.{Done}
 use Rattle.mesh.proofs.Tests.{T-eq, T-le}
 use Rattle.mesh.proofs.Numbers.{nodes-le}
-use Rattle.mapfile.specs.Format.{distance, trailer, fileOf, MapFile}
-use Rattle.mapfile.specs.Entry.{writeCheck}
-use Rattle.mapfile.proofs.Checks.{both-done, unless-done, sizes-done, cells-done}
+use Rattle.format.specs.Format.{distance, trailer, fileOf, MapFile}
+use Rattle.format.specs.Entry.{writeCheck}
+use Rattle.format.proofs.Checks.{both-done, unless-done, sizes-done, cells-done}
 
 module _ (S : Sizes) (cells : List ℕ) where
   -- of N + 12 bytes

@@ -20,10 +20,10 @@ use Rattle.mesh.specs.declared.Answer.{Answer}
 use Rattle.mesh.specs.declared.Answer.the-variants.{Done, Refused}
 use Rattle.mesh.proofs.Tests.{T-and, T-eq, T-le, T-all, holds-true}
 use Rattle.mesh.proofs.Answers.{sizes-of, sizes-is, first-is, first-at, first-below}
-use Rattle.mapfile.specs.Format.{trailerLength, fileLimit, distance, trailerAt, hasMark, sizesIn, distanceIn, cellsIn}
-use Rattle.mapfile.specs.Entry.{checkFrame, checkTrailer, readCheck, writeCheck}
-use Rattle.mapfile.specs.Promise.{Framed, Reaches, NoneBad, FirstBad, ReadRefused, WriteRefused}
-use Rattle.mapfile.proofs.Checks.{fails-false, cells-done}
+use Rattle.format.specs.Format.{trailerLength, fileLimit, distance, trailerAt, hasMark, sizesIn, distanceIn, cellsIn}
+use Rattle.format.specs.Entry.{checkFrame, checkTrailer, readCheck, writeCheck}
+use Rattle.format.specs.Promise.{Framed, Reaches, NoneBad, FirstBad, ReadRefused, WriteRefused}
+use Rattle.format.proofs.Checks.{fails-false, cells-done}
 
 -- ---- a check that grants exactly where P holds, and else refuses by r
 

@@ -12,9 +12,9 @@ use Rattle.mesh.specs.declared.Refusal.the-variants.{BadFile}
 use Rattle.mesh.specs.declared.Answer.{Answer}
 use Rattle.mesh.specs.declared.Answer.the-variants.{Done, Refused}
 use Rattle.mesh.specs.declared.Numbered.{Numbered}
-use Rattle.mapfile.specs.Format.{trailerLength, fileLimit, distance, fileOf, trailerAt, hasMark, sizesIn, distanceIn, cellsIn}
-use Rattle.mapfile.specs.declared.MapRead.{MapRead}
-use Rattle.mapfile.specs.declared.MapRead.the-variants.{Read, NotRead}
+use Rattle.format.specs.Format.{trailerLength, fileLimit, distance, fileOf, trailerAt, hasMark, sizesIn, distanceIn, cellsIn}
+use Rattle.format.specs.declared.MapRead.{MapRead}
+use Rattle.format.specs.declared.MapRead.the-variants.{Read, NotRead}
 
 -- the number and the values of what reading answers: "A refusal returns its number and 0 for every value", except 4
 abbrev pub readNo : MapRead → ℕ

@@ -8,12 +8,12 @@ use Rattle.mesh.specs.Answers.{checkMap}
 use Rattle.mesh.specs.declared.Sizes.{Sizes}
 use Rattle.mesh.specs.declared.Answer.the-variants.{Done}
 use Rattle.mesh.proofs.Answers.{map-granted}
-use Rattle.mapfile.specs.Format.{sizesIn, cellsIn}
-use Rattle.mapfile.specs.Entry.{readCheck, readAnswer, readOut}
-use Rattle.mapfile.specs.declared.MapRead.{MapRead}
-use Rattle.mapfile.specs.declared.MapRead.the-variants.{Read}
-use Rattle.mapfile.proofs.Refusals.{read-ordered, read-front}
-use Rattle.mapfile.proofs.Reading.{read-as}
+use Rattle.format.specs.Format.{sizesIn, cellsIn}
+use Rattle.format.specs.Entry.{readCheck, readAnswer, readOut}
+use Rattle.format.specs.declared.MapRead.{MapRead}
+use Rattle.format.specs.declared.MapRead.the-variants.{Read}
+use Rattle.format.proofs.Refusals.{read-ordered, read-front}
+use Rattle.format.proofs.Reading.{read-as}
 
 module _ (file : List ℕ) (room : ℕ) (S : Sizes) (is : readAnswer file room ≡ Read S) where
   granted : (readCheck file room ≡ Done) × (sizesIn file ≡ S)

@@ -18,13 +18,13 @@ use Rattle.mesh.specs.declared.Answer.the-variants.{Done, Refused}
 use Rattle.mesh.proofs.Tests.{T-and, T-eq, T-le, T-all}
 use Rattle.mesh.proofs.Tables.{length-table, getD-table}
 use Rattle.mesh.proofs.Numbers.{nodes-le}
-use Rattle.mapfile.specs.Format.{fileMark, fileLimit, fourBytes, distance, trailer, fileOf, MapFile}
-use Rattle.mapfile.specs.Format.{trailerAt, hasMark, sizesIn, distanceIn, cellsIn}
-use Rattle.mapfile.specs.Entry.{mapRead, checkFrame, checkTrailer, readCheck, readAnswer, readWritten, readOut}
-use Rattle.mapfile.specs.declared.MapRead.the-variants.{Read}
-use Rattle.mapfile.proofs.Checks.{both-done, unless-done, sizes-done, cells-done}
-use Rattle.mapfile.proofs.Refusals.{cells-size}
-use Rattle.mapfile.proofs.Bytes.{bytes-of, number-back}
+use Rattle.format.specs.Format.{fileMark, fileLimit, fourBytes, distance, trailer, fileOf, MapFile}
+use Rattle.format.specs.Format.{trailerAt, hasMark, sizesIn, distanceIn, cellsIn}
+use Rattle.format.specs.Entry.{mapRead, checkFrame, checkTrailer, readCheck, readAnswer, readWritten, readOut}
+use Rattle.format.specs.declared.MapRead.the-variants.{Read}
+use Rattle.format.proofs.Checks.{both-done, unless-done, sizes-done, cells-done}
+use Rattle.format.proofs.Refusals.{cells-size}
+use Rattle.format.proofs.Bytes.{bytes-of, number-back}
 
 -- what each check of the reader grants
 pub record Granted (file : List ℕ) (room : ℕ) : Type 0 where

@@ -15,13 +15,13 @@ use Rattle.mesh.specs.declared.Refusal.{Refusal}
 use Rattle.mesh.specs.declared.Numbered.{Numbered}
 use Rattle.mesh.specs.declared.Numbered.the-variants.{Number, NotNumbered}
 use Rattle.mesh.proofs.Tests.{T-and, T-lt}
-use Rattle.mapfile.specs.Format.{trailer, fileOf, MapFile}
-use Rattle.mapfile.specs.Entry.{writeCheck, writeAnswer, writeOut}
-use Rattle.mapfile.specs.Promise.{Reads, Writes}
-use Rattle.mapfile.specs.declared.MapRead.{MapRead}
-use Rattle.mapfile.specs.declared.MapRead.the-variants.{Read, NotRead}
-use Rattle.mapfile.proofs.Writing.{written-file}
-use Rattle.mapfile.proofs.Promise.{writes, one-writing}
+use Rattle.format.specs.Format.{trailer, fileOf, MapFile}
+use Rattle.format.specs.Entry.{writeCheck, writeAnswer, writeOut}
+use Rattle.format.specs.Promise.{Reads, Writes}
+use Rattle.format.specs.declared.MapRead.{MapRead}
+use Rattle.format.specs.declared.MapRead.the-variants.{Read, NotRead}
+use Rattle.format.proofs.Writing.{written-file}
+use Rattle.format.proofs.Promise.{writes, one-writing}
 
 -- two maps, of 2 × 2 × 1 with one faulty node and of 2 × 3 × 1, and some room
 abbrev flat : Sizes

@@ -1,0 +1,9 @@
+pub mod Checks
+pub mod Refusals
+pub mod Reasons
+pub mod Bytes
+pub mod Reading
+pub mod Read
+pub mod Writing
+pub mod Promise
+pub mod Impostors
