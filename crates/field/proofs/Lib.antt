@@ -8,6 +8,7 @@ pub mod Beside
 pub mod Shown
 pub mod Tested
 pub mod Scanned
+pub mod First
 pub mod Fresh
 pub mod Made
 pub mod Hear

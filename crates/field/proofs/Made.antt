@@ -16,17 +16,16 @@ use Rattle.mesh.specs.Marks.{ruleByte, readBy}
 use Rattle.mesh.specs.declared.Sizes.{Sizes}
 use Rattle.mesh.specs.declared.Place.{Place}
 use Rattle.mesh.specs.declared.Next.the-variants.{At, Edge}
+use Rattle.mesh.proofs.Tests.{cond-true}
 use Rattle.mesh.proofs.Tables.{length-table, getD-table}
 use Rattle.mesh.proofs.Numbers.{number-of, place-of}
 use Rattle.mesh.proofs.Steps.{dir-of, put, next-along}
 use Rattle.mesh.proofs.Strides.{stride, up-is, down-is}
-use Rattle.field.specs.State.{own, heard, faultyNode, worksNode}
+use Rattle.field.specs.State.{own, heard}
 use Rattle.field.specs.Sound.{faultyHears, freshHeard, freshOwn, freshByte, fresh}
-use Rattle.field.specs.Scan.{isHeard, quickRule, freshUp, freshDown, Stored, Fresh}
+use Rattle.field.specs.Scan.{freshUp, freshDown, isFirst, First, firstRule, sides, Stored, Put, Fresh}
 use Rattle.field.proofs.Rule.{ruled-same}
-use Rattle.field.proofs.Scanned.{quick-is}
-use Rattle.field.proofs.Fresh.{fresh-heard, fresh-sound}
-use Rattle.field.proofs.Taken.{heard-byte}
+use Rattle.field.proofs.First.{first-read, first-sides, first-is}
 
 -- ---- two stores
 
@@ -86,66 +85,108 @@ module _ (S : Sizes) (cells : List ℕ) where
 
 -- ---- a node's seven bytes
 
-module _ (S : Sizes) (cells : List ℕ) (o : ℕ) (p : Place) (i : Inside S p) (k : ℕ) (e : k ≡ number S p) where
-  abbrev n : Map
-  n = mapOf S cells
+-- three axes and the own byte
+pub stored-bytes : (s t u v : List ℕ) (k o a b c d e f : ℕ) → length v ≡ length s → 7 * k + 7 ≤ length s
+    → Stored s t k 0 a b → Stored t u k 2 c d → Stored u v k 4 e f → Put s (set v (7 * k) o) k o (sides a b c d e f)
+stored-bytes s t u v k o a b c d e f g l x y z = record {
+  owned = getD-set-same v (7 * k) o 0 (omega arith);
+  told = λ j h. getD-set-other v (7 * k) (7 * k + 1 + j) o 0 (omega arith) ∙ tells j h;
+  kept = λ i h. getD-set-other v (7 * k) i o 0 (omega arith)
+      ∙ z .kept i (omega arith) (omega arith) ∙ y .kept i (omega arith) (omega arith) ∙ x .kept i (omega arith) (omega arith);
+}
+  where
+    tells : (j : ℕ) → j < 6 → heard v k j ≡ sides a b c d e f j
+    tells zero h = z .kept (7 * k + 1 + 0) (omega arith) (omega arith) ∙ y .kept (7 * k + 1 + 0) (omega arith) (omega arith) ∙ x .up
+    tells (suc zero) h = z .kept (7 * k + 1 + 1) (omega arith) (omega arith) ∙ y .kept (7 * k + 1 + 1) (omega arith) (omega arith) ∙ x .down
+    tells (suc (suc zero)) h = z .kept (7 * k + 1 + 2) (omega arith) (omega arith) ∙ y .up
+    tells (suc (suc (suc zero))) h = z .kept (7 * k + 1 + 3) (omega arith) (omega arith) ∙ y .down
+    tells (suc (suc (suc (suc zero)))) h = z .up
+    tells (suc (suc (suc (suc (suc zero))))) h = z .down
+    tells (suc (suc (suc (suc (suc (suc j)))))) h = absurd (omega arith)
 
-  abbrev f : Bool
-  f = faultyCell (getD cells k 0)
+-- one node more is done
+pub node-done : (m : Map) (o k : ℕ) (s v : List ℕ) (b : ℕ) (h : ℕ → ℕ) → Fresh m o k s → length v ≡ length s → Put s v k b h
+    → b ≡ freshOwn m o k → ((j : ℕ) → j < 6 → h j ≡ freshHeard m k j) → Fresh m o (k + 1) v
+node-done m o k s v b h F g P e f = record {
+  long = g ∙ F .long;
+  owns = below-more (λ j. own v j ≡ freshOwn m o j) k (λ j l. P .kept (7 * j) (omega arith) ∙ F .owns j l) (P .owned ∙ e);
+  hears = λ j d l c. below-more (λ j. heard v j d ≡ freshHeard m j d) k
+      (λ j l. P .kept (7 * j + 1 + d) (omega arith) ∙ F .hears j d l c) (P .told d c ∙ f d c) j l;
+}
 
-  -- an axis's two bytes were stored
-  abbrev pub Axis-stored : List ℕ → List ℕ → Axis → Type 0
-  Axis-stored s t a = Stored s t k (along a false)
-      (cond f (faultyHears n (placeOf S k) (along a false)) (freshUp cells k (on p a) (span S a) (stride S a)))
-      (cond f (faultyHears n (placeOf S k) (along a true)) (freshDown cells k (on p a) (stride S a)))
-
-  module _ (s t u v : List ℕ) (x : Axis-stored s t X) (y : Axis-stored t u Y) (z : Axis-stored u v Z) where
-    -- bytes of other nodes are kept, and own bytes
-    axes-kept : (j : ℕ) → ((i : ℕ) → i < 6 → j ≡ 7 * k + 1 + i → ⊥) → getD v j 0 ≡ getD s j 0
-    axes-kept j h =
-        z .kept j (h 4 (omega arith)) (h 5 (omega arith))
-        ∙ y .kept j (h 2 (omega arith)) (h 3 (omega arith))
-        ∙ x .kept j (h 0 (omega arith)) (h 1 (omega arith))
-
-    axes-hear : (j : ℕ) → j < 6 → heard v k j ≡ freshHeard n k j
-    axes-hear j h =
-        let (a, down, q) = dir-of j h in
-        rw q (go a down)
-      where
-        go : (a : Axis) (down : Bool) → heard v k (along a down) ≡ freshHeard n k (along a down)
-        go X false = z .kept (7 * k + 1 + 0) (omega arith) (omega arith) ∙ y .kept (7 * k + 1 + 0) (omega arith) (omega arith) ∙ x .up
-            ∙ sym (fresh-up S cells p i X k e)
-        go X true = z .kept (7 * k + 1 + 1) (omega arith) (omega arith) ∙ y .kept (7 * k + 1 + 1) (omega arith) (omega arith) ∙ x .down
-            ∙ sym (fresh-down S cells p i X k e)
-        go Y false = z .kept (7 * k + 1 + 2) (omega arith) (omega arith) ∙ y .up ∙ sym (fresh-up S cells p i Y k e)
-        go Y true = z .kept (7 * k + 1 + 3) (omega arith) (omega arith) ∙ y .down ∙ sym (fresh-down S cells p i Y k e)
-        go Z false = z .up ∙ sym (fresh-up S cells p i Z k e)
-        go Z true = z .down ∙ sym (fresh-down S cells p i Z k e)
-
-    -- the own byte
-    own-is : k < nodes S → (b : ℕ) → b ≡ cond f 1 (quickRule S o (heard v k)) → b ≡ freshOwn n o k
+module _ (S : Sizes) (cells : List ℕ) (o k : ℕ) where
+  -- a faulty node
+  module _ (t : T (faultyCell (getD cells k 0))) where
+    failed-own : 1 ≡ freshOwn (mapOf S cells) o k
     unfolding freshOwn
-    own-is l b q = q ∙ go f (faulty-is S cells k)
-      where
-        go : (t : Bool) → faultyNode n k ≡ t → cond t 1 (quickRule S o (heard v k)) ≡ cond (faultyNode n k) 1 (ruleByte S o (freshHeard n k))
-        go true r = rw r
-        go false r =
-            let w : T (worksNode n k) = rw r tt in
-            let good : (j : ℕ) → j < 6 → T (isHeard (heard v k j)) = λ j h.
-            rw (axes-hear j h, ← fresh-heard n o k j l h) (heard-byte n o (fresh n o) (fresh-sound n o) k j l w h) in
-            rw r (quick-is S o (heard v k) good ∙ ruled-same S o (heard v k) (freshHeard n k) axes-hear)
+    failed-own = rw (faulty-is S cells k)
+        (sym (cond-true (faultyCell (getD cells k 0)) 1 (ruleByte S o (freshHeard (mapOf S cells) k)) t))
 
-    pub node-done : Fresh n o k s → k < nodes S → length v ≡ length s → (b : ℕ) → b ≡ cond f 1 (quickRule S o (heard v k))
-        → Fresh n o (k + 1) (set v (7 * k) b)
-    node-done F l g b q = record {
-      long = length-set v (7 * k) b ∙ g ∙ F .long;
-      owns = below-more (λ j. own (set v (7 * k) b) j ≡ freshOwn n o j) k
-          (λ j h. getD-set-other v (7 * k) (7 * j) b 0 (omega arith) ∙ axes-kept (7 * j) (λ i _ r. omega arith) ∙ F .owns j h)
-          (getD-set-same v (7 * k) b 0 (omega (arith, F .long)) ∙ own-is l b q);
-      hears = λ j d h c. below-more (λ j. heard (set v (7 * k) b) j d ≡ freshHeard n j d) k
-          (λ j h. getD-set-other v (7 * k) (7 * j + 1 + d) b 0 (omega arith) ∙ axes-kept (7 * j + 1 + d) (λ i _ r. omega arith) ∙ F .hears j d h c)
-          (getD-set-other v (7 * k) (7 * k + 1 + d) b 0 (omega arith) ∙ axes-hear d c) j h;
-    }
+    failed-hears : (j : ℕ) → faultyHears (mapOf S cells) (placeOf S k) j ≡ freshHeard (mapOf S cells) k j
+    failed-hears j = sym (heard-is S cells k j _ refl ∙ cond-true (faultyCell (getD cells k 0)) _ _ t)
+
+    pub failed-done : (s v : List ℕ) (b : ℕ) → ((j : ℕ) → b ≡ faultyHears (mapOf S cells) (placeOf S k) j) → Fresh (mapOf S cells) o k s
+        → length v ≡ length s → Put s v k 1 (sides b b b b b b) → Fresh (mapOf S cells) o (k + 1) v
+    failed-done s v b q F g P = node-done (mapOf S cells) o k s v 1 (sides b b b b b b) F g P failed-own λ j h. all-b j h ∙ q j ∙ failed-hears j
+      where
+        all-b : (j : ℕ) → j < 6 → sides b b b b b b j ≡ b
+        all-b zero h = refl
+        all-b (suc zero) h = refl
+        all-b (suc (suc zero)) h = refl
+        all-b (suc (suc (suc zero))) h = refl
+        all-b (suc (suc (suc (suc zero)))) h = refl
+        all-b (suc (suc (suc (suc (suc zero))))) h = refl
+        all-b (suc (suc (suc (suc (suc (suc j)))))) h = absurd (omega arith)
+
+  -- a working node at p
+  module _ (p : Place) (i : Inside S p) (e : k ≡ number S p) (w : faultyCell (getD cells k 0) ≡ false) where
+    abbrev up : Axis → ℕ
+    up a = freshUp cells k (on p a) (span S a) (stride S a)
+
+    abbrev down : Axis → ℕ
+    down a = freshDown cells k (on p a) (stride S a)
+
+    abbrev pub firsts : ℕ → ℕ
+    firsts = sides (up X) (down X) (up Y) (down Y) (up Z) (down Z)
+
+    pub firsts-first : First firsts
+    firsts-first = first-sides (up X) (down X) (up Y) (down Y) (up Z) (down Z) (ups X) (downs X) (ups Y) (downs Y) (ups Z) (downs Z)
+      where
+        ups : (a : Axis) → T (isFirst (up a))
+        ups a = first-read (ltb (on p a + 1) (span S a)) (faultyCell (getD cells (k + stride S a) 0))
+
+        downs : (a : Axis) → T (isFirst (down a))
+        downs a = first-read (ltb 0 (on p a)) (faultyCell (getD cells (k - stride S a) 0))
+
+    up-heard : (a : Axis) → up a ≡ freshHeard (mapOf S cells) k (along a false)
+    up-heard a = sym (fresh-up S cells p i a k e ∙ (rw w))
+
+    down-heard : (a : Axis) → down a ≡ freshHeard (mapOf S cells) k (along a true)
+    down-heard a = sym (fresh-down S cells p i a k e ∙ (rw w))
+
+    firsts-heard : (j : ℕ) → j < 6 → firsts j ≡ freshHeard (mapOf S cells) k j
+    firsts-heard j h =
+        let (a, d, q) = dir-of j h in
+        rw q (go a d)
+      where
+        go : (a : Axis) (d : Bool) → firsts (along a d) ≡ freshHeard (mapOf S cells) k (along a d)
+        go X false = up-heard X
+        go X true = down-heard X
+        go Y false = up-heard Y
+        go Y true = down-heard Y
+        go Z false = up-heard Z
+        go Z true = down-heard Z
+
+    first-own : firstRule S o firsts ≡ freshOwn (mapOf S cells) o k
+    unfolding freshOwn
+    first-own =
+        first-is S o firsts firsts-first
+        ∙ ruled-same S o firsts (freshHeard (mapOf S cells) k) firsts-heard
+        ∙ (rw (faulty-is S cells k, w))
+
+    pub working-done : (s v : List ℕ) (b : ℕ) → b ≡ firstRule S o firsts → Fresh (mapOf S cells) o k s → length v ≡ length s
+        → Put s v k b firsts → Fresh (mapOf S cells) o (k + 1) v
+    working-done s v b q F g P = node-done (mapOf S cells) o k s v b firsts F g P (q ∙ first-own) firsts-heard
 
 -- ---- all nodes
 
