@@ -4,7 +4,7 @@ use crate::checks::check_fresh;
 use crate::checks::check_numbers;
 use crate::checks::check_question;
 use crate::checks::unless;
-use crate::making::put_fresh;
+use making::put_fresh;
 use mesh::Answer;
 use mesh::Numbered;
 use mesh::Refusal;

@@ -2,4 +2,3 @@
 
 pub mod checks;
 pub mod entry;
-pub mod making;

@@ -62,7 +62,7 @@ module _ (S : Sizes) (o : ℕ) where
   if-counted false true b = on-axis false b
   if-counted false false b = refl
 
-  looks-rule : InRange S → (b : ℕ → Bool) → all 6 (λ j. implies (looks S o j) (b j)) ≡ rule S o b
+  pub looks-rule : InRange S → (b : ℕ → Bool) → all 6 (λ j. implies (looks S o j) (b j)) ≡ rule S o b
   looks-rule r b =
       all-axes (λ j. implies (looks S o j) (b j))
       ∙ ap₂ _&&_

@@ -46,7 +46,7 @@ fn deep(s: Sizes) -> u8
 }
 
 // A 1 for each direction that is ahead on a counted axis.
-fn ahead(s: Sizes, o: usize) -> u64
+pub fn ahead(s: Sizes, o: usize) -> u64
     ensures { λ r. ⌜ (r ≡ six (λ j. bit (looks s o j))) × (r ≤ ones) ⌝ }
 {
     let x = (o % 2) as u8;

@@ -1,8 +1,8 @@
 -- `field::making::fresh_down` meets its contract: the neighbour is there where the coordinate is not 0. Assumes nothing.
 use borrow.Author.Tests.{lt-ltb, le-ltb}
 use borrow.Author.Needs.{needs}
-use Rattle.field.proofs.making.fresh_down.Statement.{statement}
-use Rattle.field.proofs.making.fresh_down.Tie as tie
+use Rattle.making.proofs.fresh_down.Statement.{statement}
+use Rattle.making.proofs.fresh_down.Tie as tie
 
 sub-faulty-bit : tie.Need-sub-faulty-bit
 sub-faulty-bit c = c .before .before .pre .below (c .if1 .taken)

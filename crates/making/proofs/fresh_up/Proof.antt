@@ -2,8 +2,8 @@
 use native.Mathlib.Omega.{arith}
 use borrow.Author.Tests.{lt-ltb, le-ltb}
 use borrow.Author.Needs.{needs}
-use Rattle.field.proofs.making.fresh_up.Statement.{statement}
-use Rattle.field.proofs.making.fresh_up.Tie as tie
+use Rattle.making.proofs.fresh_up.Statement.{statement}
+use Rattle.making.proofs.fresh_up.Tie as tie
 
 add-faulty-bit : tie.Need-add-faulty-bit
 add-faulty-bit c = omega (arith, c .before .before .pre .1 .above (c .if1 .taken))

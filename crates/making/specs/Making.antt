@@ -1,13 +1,16 @@
 -- How the code makes a fresh state: node by node, each from the cells of its neighbours. `fresh-all` of proofs/ shows that it makes what 01
 -- says. Assumes nothing.
-use mathlib.Core.Bool.{cond}
-use mathlib.Core.List.{List}
+use mathlib.Core.Bool.{Bool, cond, _||_}
+use mathlib.Core.List.{List, [], _∷_}
 use mathlib.Core.Path.{_≡_}
 use Prim.Native.Nat.{ℕ, _+_, _-_, _*_, _<_}
-use lib.Dec.{ltb}
+use lib.Dec.{T, eqb, ltb}
 use lib.ListN.{length, getD}
 use Rattle.mesh.specs.Tools.{bit}
+use Rattle.mesh.specs.Steps.{reversed}
 use Rattle.mesh.specs.Cells.{Map, faultyCell, stateLength}
+use Rattle.mesh.specs.Marks.{rule}
+use Rattle.mesh.specs.declared.Sizes.{Sizes}
 use Rattle.talk.specs.State.{own, heard}
 use Rattle.talk.specs.Sound.{freshHeard, freshOwn}
 
@@ -18,11 +21,31 @@ freshUp cells k c n step = cond (ltb (c + 1) n) (bit (faultyCell (getD cells (k 
 abbrev pub freshDown : List ℕ → ℕ → ℕ → ℕ → ℕ
 freshDown cells k c step = cond (ltb 0 c) (bit (faultyCell (getD cells (k - step) 0))) 8
 
+-- the bytes that are heard at first: 8, 1 or 0, and only 1 blocks
+unfoldable pub isFirst : ℕ → Bool
+isFirst b = eqb b 8 || eqb b 1 || eqb b 0
+
+abbrev pub First : (ℕ → ℕ) → Type 0
+First h = (j : ℕ) → T (isFirst (h j))
+
+unfoldable pub firstRule : Sizes → ℕ → (ℕ → ℕ) → ℕ
+firstRule S o h = 2 * bit (rule S o λ j. eqb (h j) 1) + 4 * bit (rule S (reversed o) λ j. eqb (h j) 1)
+
+-- a byte for each direction
+abbrev pub sides : ℕ → ℕ → ℕ → ℕ → ℕ → ℕ → ℕ → ℕ
+sides a b c d e f j = getD (a ∷ b ∷ c ∷ d ∷ e ∷ f ∷ []) j 0
+
 -- node k now holds v for direction j and w for the next; nothing else has changed
 pub record Stored (old new : List ℕ) (k j v w : ℕ) : Type 0 where
   pub up : heard new k j ≡ v
   pub down : heard new k (j + 1) ≡ w
   pub kept : (i : ℕ) → (i ≡ 7 * k + 1 + j → ⊥) → (i ≡ 7 * k + 1 + (j + 1) → ⊥) → getD new i 0 ≡ getD old i 0
+
+-- node k now holds b as its own byte and h j for direction j; the nodes before it keep theirs
+pub record Put (old new : List ℕ) (k b : ℕ) (h : ℕ → ℕ) : Type 0 where
+  pub owned : own new k ≡ b
+  pub told : (j : ℕ) → j < 6 → heard new k j ≡ h j
+  pub kept : (i : ℕ) → i < 7 * k → getD new i 0 ≡ getD old i 0
 
 -- the first n nodes hold what the fresh state does
 pub record Fresh (m : Map) (o n : ℕ) (s : List ℕ) : Type 0 where
