@@ -2,12 +2,12 @@
 use crate::Audited;
 use crate::Totals;
 use crate::lines::transfer;
-use crate::running::print;
 use logfile::Entry;
 use logfile::reading::entry;
 use logfile::reading::line_from;
 use mesh::Sizes;
 use routes::entries::verdict;
+use text::running::print_front;
 use text::tell;
 ghost use mathlib.Core.Path.{_≡_};
 ghost use Prim.Native.Nat.{_≤_};
@@ -57,7 +57,7 @@ pub fn audit_log(s: Sizes, cells: &[u8], log: &[u8], out: &mut [u8]) -> Totals
         let line = line_from(log, at);
         let done = audit_line(s, cells, t, line, out);
         t = done.totals;
-        print(out, done.used);
+        print_front(out, done.used);
         at += line.len() + 1;
     }
     t

@@ -5,6 +5,7 @@ pub mod counting;
 pub mod heading;
 pub mod lines;
 pub mod running;
+pub mod usage;
 pub mod words;
 
 // How many lines were read; of these, transfers granted, refused for want of a path, and refused otherwise; and lines that are no pair.

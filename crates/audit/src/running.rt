@@ -6,23 +6,10 @@ use crate::words::say_refusal;
 use format::MapRead;
 use mapfile::reader::read_map;
 use mesh::Sizes;
+use text::running::blank_file;
+use text::running::print_front;
 ghost use mathlib.Core.Path.{_≡_};
-ghost use Prim.Native.Nat.{_≤_};
 ghost use lib.ListN.{length};
-
-// Room for the longest file, and for one byte more, by which a longer one is told.
-fn blank_file() -> [u8; 65537]
-    ensures { λ r. ⌜ 65537 ≡ length r ⌝ }
-{
-    [0; 65537]
-}
-
-// Prints the first n bytes.
-pub fn print(text: &[u8], n: usize)
-    requires { ⌜ n ≤ length (now text) ⌝ }
-{
-    io::write_all(libc::STDOUT_FILENO, &text[..n]);
-}
 
 // The page for a map and a log of at most 65,536 bytes.
 fn print_audit(s: Sizes, cells: &[u8], log: &[u8], out: &mut [u8])
@@ -30,13 +17,13 @@ fn print_audit(s: Sizes, cells: &[u8], log: &[u8], out: &mut [u8])
 {
     let long = log.len() > 65536;
     let n = top(s, long, out);
-    print(out, n);
+    print_front(out, n);
     if long {
         return;
     }
     let t = audit_log(s, cells, log, out);
     let k = tell_totals(t, out);
-    print(out, k);
+    print_front(out, k);
 }
 
 // The page for a map file and a log.
@@ -50,7 +37,7 @@ fn audit(map: &[u8], log: &[u8]) {
         }
         MapRead::NotRead(r) => {
             let n = say_refusal(b"the map is refused, ", r, &mut space, 0);
-            print(&space, n);
+            print_front(&space, n);
         }
     }
 }

@@ -4,7 +4,7 @@ use text::running::open_named;
 
 fn main() {
     for i in 1..os::arg_count() {
-        let fd = open_named(i);
+        let fd = open_named(b"", i);
         if fd >= 0 {
             run(fd);
             libc::close(fd);

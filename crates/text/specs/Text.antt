@@ -28,6 +28,10 @@ told [] numbers = []
 told (b ∷ form) [] = b ∷ told form []
 told (b ∷ form) (n ∷ numbers) = elim (eqb b 37) [ true ↦ decimal n ++ told form numbers | false ↦ b ∷ told form (n ∷ numbers) ]
 
+-- the line that names a file, after a word
+abbrev pub nameLine : List ℕ → List ℕ → List ℕ
+nameLine word path = word ++ path ++ ascii "\n"
+
 -- f 0, f 1, .. f (n - 1), one after another
 unfoldable pub pieces : (ℕ → List ℕ) → ℕ → List ℕ
 pieces f zero = []

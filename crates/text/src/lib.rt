@@ -4,7 +4,7 @@ pub mod running;
 use mapfile::storing::put;
 ghost use Prim.Native.Nat.{_+_, _*_, _≤_};
 ghost use lib.ListN.{length};
-ghost use Rattle.text.specs.Text.{decimal, told, Said};
+ghost use Rattle.text.specs.Text.{decimal, told, nameLine, Said};
 
 // Stores a word from a place on; the place after it.
 pub fn say(word: &[u8], out: &mut [u8], at: usize) -> usize
@@ -23,6 +23,17 @@ pub fn say_number(n: usize, out: &mut [u8], at: usize) -> usize
     let mut digits = [0u8; 20];
     let k = io::decimal(n as u64, &mut digits);
     say(&digits[..k], out, at)
+}
+
+// Stores the line that names a file.
+pub fn name_line(word: &[u8], path: &[u8], out: &mut [u8]) -> usize
+    requires { ⌜ length (now word) + length (now path) + 1 ≤ length (now out) ⌝ }
+    ensures { λ r. ⌜ Said (now (out .entry)) 0 (nameLine (now (word .entry)) (now (path .entry))) (now (out .exit)) r
+        × (r ≤ length (now (word .entry)) + length (now (path .entry)) + 1) ⌝ }
+{
+    let head = say(word, out, 0);
+    let end = say(path, out, head);
+    say(b"\n", out, end)
 }
 
 // Stores a form with its numbers.

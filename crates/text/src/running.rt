@@ -1,5 +1,5 @@
 // What the programs share, and nothing proves more of than that it is safe: a file is read, a file is named, text is printed.
-use libc::STDOUT_FILENO;
+use crate::name_line;
 ghost use mathlib.Core.Path.{_≡_};
 ghost use Prim.Native.Nat.{_≤_};
 ghost use lib.ListN.{length};
@@ -11,8 +11,10 @@ pub fn blank_file() -> [u8; 65537]
     [0; 65537]
 }
 
-// Opens the file that argument i names, and prints its name. The descriptor is below 0 where it cannot be opened.
-pub fn open_named(i: usize) -> i32 {
+// Opens the file that argument i names, and prints its name after a word. The descriptor is below 0 where it cannot be opened.
+pub fn open_named(word: &[u8], i: usize) -> i32
+    requires { ⌜ length (now word) ≤ 4 ⌝ }
+{
     let mut path = io::buffer();
     let n = os::arg(i, &mut path);
     let fd = os::open_read(&path[..n]);
@@ -20,8 +22,9 @@ pub fn open_named(i: usize) -> i32 {
         os::fail(&path[..n]);
         return fd;
     }
-    io::write_all(STDOUT_FILENO, &path[..n]);
-    io::write_all(STDOUT_FILENO, b"\n");
+    let mut line = io::large_buffer();
+    let end = name_line(word, &path[..n], &mut line);
+    print_front(&line, end);
     fd
 }
 
@@ -29,5 +32,5 @@ pub fn open_named(i: usize) -> i32 {
 pub fn print_front(text: &[u8], n: usize)
     requires { ⌜ n ≤ length (now text) ⌝ }
 {
-    io::write_all(STDOUT_FILENO, &text[..n]);
+    io::write_all(libc::STDOUT_FILENO, &text[..n]);
 }

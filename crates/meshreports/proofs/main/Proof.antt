@@ -6,12 +6,12 @@ use Rattle.meshreports.proofs.main.Statement.{statement}
 use Rattle.meshreports.proofs.main.Tie as tie
 
 abbrev Inv-loop : tie.InvT-loop
-Inv-loop i₀ i-end i = Unit {0}
+Inv-loop i₀ word i-end i = Unit {0}
 
 abbrev μ-loop : tie.MeasureT-loop
-μ-loop i₀ i-end i = i-end - i
+μ-loop i₀ word i-end i = i-end - i
 
 pub main-spec : {M : Type 1} → statement M
 main-spec =
-    tie.close (tie.spec Inv-loop μ-loop (λ c κs. search needs) (λ c. tt) (λ c κs. search needs) (λ c κs. search needs)
-    (λ c κs. search needs) (λ c. search needs) (λ c. omega arith) (λ c. tt) (λ c. tt))
+    tie.close (tie.spec Inv-loop μ-loop (λ c κs. search needs) (λ c. tt) (λ c. search needs) (λ c κs. search needs)
+    (λ c κs. search needs) (λ c κs. search needs) (λ c. search needs) (λ c. omega arith) (λ c. tt) (λ c. tt))

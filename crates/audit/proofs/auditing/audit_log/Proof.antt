@@ -48,11 +48,11 @@ audit-line-requires c κs =
     let s = l .before .before .before .before .before .pre in
     (more (l .loop .inv .1) (omega (arith, s .0, c .before .before .loop-test .taken)), omega (arith, s .1, l .loop .inv .2))
 
-print-requires : tie.Need-print-requires Inv-loop μ-loop
-print-requires c κs = fits (c .before .before .before .before)
+print-front-requires : tie.Need-print-front-requires Inv-loop μ-loop
+print-front-requires c κs = fits (c .before .before .before .before)
 
 -- the next place fits
-small : (c : tie.After-print Inv-loop μ-loop) →
+small : (c : tie.After-print-front Inv-loop μ-loop) →
     let line = c .before .before .before .before .before .before .before in
     line .before .before .loop .at + length (now (line .line-from .result)) ≤ 65536
 small c =
@@ -84,5 +84,5 @@ returns c =
 
 pub audit-log-spec : {M : Type 1} → statement M
 audit-log-spec =
-    tie.close (tie.spec Inv-loop μ-loop (λ c κs. search needs) loop-holds (λ c κs. omega arith) audit-line-requires print-requires
+    tie.close (tie.spec Inv-loop μ-loop (λ c κs. search needs) loop-holds (λ c κs. omega arith) audit-line-requires print-front-requires
     (λ c. omega (arith, small c)) (λ c. omega (arith, small c)) (λ c. omega arith) loop-again (λ c. omega arith) returns)
