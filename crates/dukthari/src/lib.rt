@@ -140,21 +140,23 @@ pub extern "C" fn dk_step(
         Stepped::Led(n) => match n {
             Next::At(q) => {
                 let p = placed(q);
-                StepAnswer {
+                return StepAnswer {
                     refusal: 0,
                     there: 1,
                     x: p.x,
                     y: p.y,
                     z: p.z,
-                }
+                };
             }
-            Next::Edge => StepAnswer {
-                refusal: 0,
-                there: 0,
-                x: 0,
-                y: 0,
-                z: 0,
-            },
+            Next::Edge => {
+                return StepAnswer {
+                    refusal: 0,
+                    there: 0,
+                    x: 0,
+                    y: 0,
+                    z: 0,
+                };
+            }
         },
         Stepped::NotStepped(r) => StepAnswer {
             refusal: r.number(),

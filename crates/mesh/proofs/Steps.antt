@@ -114,6 +114,31 @@ module _ (S : Sizes) (p : Place) (i : Inside S p) where
   stay-z : moved (p .z) (pos 0) (S .d) ≡ To (p .z)
   stay-z = stay (p .z) (S .d) (i .z-in)
 
+  -- the direction's own axis moves
+  pub next-x : (j : ℕ) → j < 2 → together (moved (p .x) (stepOf j 0) (S .w)) (To (p .y)) (To (p .z)) ≡ next S p j
+  unfolding next
+  next-x zero h = rw (stay-y, stay-z)
+  next-x (suc zero) h = rw (stay-y, stay-z)
+  next-x (suc (suc j)) h = absurd (omega arith)
+
+  pub next-y : (j : ℕ) → 1 < j → j < 4 → together (To (p .x)) (moved (p .y) (stepOf j 1) (S .h)) (To (p .z)) ≡ next S p j
+  unfolding next
+  next-y zero l h = absurd (omega arith)
+  next-y (suc zero) l h = absurd (omega arith)
+  next-y (suc (suc zero)) l h = rw (stay-x, stay-z)
+  next-y (suc (suc (suc zero))) l h = rw (stay-x, stay-z)
+  next-y (suc (suc (suc (suc j)))) l h = absurd (omega arith)
+
+  pub next-z : (j : ℕ) → 3 < j → j < 6 → together (To (p .x)) (To (p .y)) (moved (p .z) (stepOf j 2) (S .d)) ≡ next S p j
+  unfolding next
+  next-z zero l h = absurd (omega arith)
+  next-z (suc zero) l h = absurd (omega arith)
+  next-z (suc (suc zero)) l h = absurd (omega arith)
+  next-z (suc (suc (suc zero))) l h = absurd (omega arith)
+  next-z (suc (suc (suc (suc zero)))) l h = rw (stay-x, stay-y)
+  next-z (suc (suc (suc (suc (suc zero))))) l h = rw (stay-x, stay-y)
+  next-z (suc (suc (suc (suc (suc (suc j)))))) l h = absurd (omega arith)
+
   pub next-along : (a : Axis) (down : Bool) → next S p (along a down) ≡ stepOn S p a down
   unfolding next
   next-along X false = rw (stay-y, stay-z) (cond-x (ltb (p .x + 1) (S .w)) (p .x + 1) (p .y) (p .z))

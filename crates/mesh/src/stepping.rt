@@ -48,14 +48,21 @@ fn together(x: Moved, y: Moved, z: Moved) -> Next
 }
 
 impl Place {
-    // The next place in a direction, or the edge.
+    // The next place in a direction, or the edge: one coordinate moves. A direction that is a constant leaves the compiler no table to build.
     pub fn step(self, direction: usize, s: Sizes) -> Next
         requires { ⌜ (direction < 6) × InRange s × Inside s self ⌝ }
         ensures { λ r. ⌜ r ≡ next s self direction ⌝ }
     {
-        let x = shift(self.x, direction, 0, s.w);
-        let y = shift(self.y, direction, 1, s.h);
-        let z = shift(self.z, direction, 2, s.d);
-        together(x, y, z)
+        let x = Moved::To(self.x);
+        let y = Moved::To(self.y);
+        let z = Moved::To(self.z);
+        match direction {
+            0 => together(shift(self.x, 0, 0, s.w), y, z),
+            1 => together(shift(self.x, 1, 0, s.w), y, z),
+            2 => together(x, shift(self.y, 2, 1, s.h), z),
+            3 => together(x, shift(self.y, 3, 1, s.h), z),
+            4 => together(x, y, shift(self.z, 4, 2, s.d)),
+            _ => together(x, y, shift(self.z, 5, 2, s.d)),
+        }
     }
 }

@@ -42,5 +42,5 @@ returns-3 c = rw (c .number .ensures) (ap stepFields (sym (c .before .before .a2
 pub dk-step-spec : {M : Type 1} → statement M
 dk-step-spec =
     tie.close (tie.spec (λ c κs. search needs) (λ c κs. search needs) (λ c κs. search needs) (λ c. search needs)
-    (λ c. search needs) placed-requires (λ c. search needs) (λ c. search needs) (λ c κs. search needs) returns
-    returns-2 returns-3)
+    (λ c. search needs) placed-requires returns (λ c. search needs) returns-2 (λ c. search needs)
+    (λ c κs. search needs) returns-3)
