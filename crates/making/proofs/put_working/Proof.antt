@@ -70,12 +70,26 @@ returns c =
     let h = firsts (a .s) cells (a .o) (a .k) (a .p) (s .pre .2) (s .pre .3) (s .pre .5) in
     let joined : q .six .result ≡ six h =
     q .six .ensures
-    ∙ (rw (ux .fresh-up .ensures, dx .fresh-down .ensures, uy .fresh-up2 .ensures, dy .fresh-down2 .ensures, uz .fresh-up3 .ensures, dz .fresh-down3 .ensures)
+    ∙ (rw (
+      ux .fresh-up .ensures,
+      dx .fresh-down .ensures,
+      uy .fresh-up2 .ensures,
+      dy .fresh-down2 .ensures,
+      uz .fresh-up3 .ensures,
+      dz .fresh-down3 .ensures,
+    )
     (six-is h)) in
     let own : r .first-own .result ≡ firstRule (a .s) (a .o) h =
     r .first-own .ensures h (firsts-first (a .s) cells (a .o) (a .k) (a .p) (s .pre .2) (s .pre .3) (s .pre .5)) joined in
     let done : Put (now (a .state)) (b .put-bytes .last .0) (a .k) (r .first-own .result) h =
-    rw (ux .fresh-up .ensures, dx .fresh-down .ensures, uy .fresh-up2 .ensures, dy .fresh-down2 .ensures, uz .fresh-up3 .ensures, dz .fresh-down3 .ensures)
+    rw (
+      ux .fresh-up .ensures,
+      dx .fresh-down .ensures,
+      uy .fresh-up2 .ensures,
+      dy .fresh-down2 .ensures,
+      uz .fresh-up3 .ensures,
+      dz .fresh-down3 .ensures,
+    )
     at (b .put-bytes .ensures) in
     working-done (a .s) cells (a .o) (a .k) (a .p) (s .pre .2) (s .pre .3) (s .pre .5) (now (a .state)) (b .put-bytes .last .0)
     (r .first-own .result) own (s .pre .6) (b .put-bytes .kept .0) done

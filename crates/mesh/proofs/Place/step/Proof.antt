@@ -1,6 +1,6 @@
 -- `mesh::Place::step` meets its contract: the direction's own axis moves, and the other two stay. Assumes nothing.
-use mathlib.Core.Path.{_≡_, refl, _∙_}
-use Prim.Native.Nat.{ℕ, zero, suc, _<_}
+use mathlib.Core.Path.{_≡_, _∙_}
+use Prim.Native.Nat.{ℕ, _<_}
 use native.Mathlib.Omega.{arith}
 use borrow.Author.Needs.{needs}
 use Rattle.mesh.specs.Mesh.{Inside}
@@ -29,56 +29,27 @@ module _ (S : Sizes) (p : Place) (i : Inside S p) (j d : ℕ) (e : d ≡ j) (m :
 last : (j : ℕ) → j < 6 → (j ≡ 0 → ⊥) → (j ≡ 1 → ⊥) → (j ≡ 2 → ⊥) → (j ≡ 3 → ⊥) → (j ≡ 4 → ⊥) → j ≡ 5
 last j h a b c d e = omega arith
 
-returns : tie.Need-returns
+returns : tie.Need-returns-6
 returns c =
     let m = c .before .before in
     let s = m .before in
-    let a = s .args in
-    arm-x (a .s) (a .self) (s .pre .2) 0 (a .direction) (m .match .keys1) _ _ (omega arith) (c .before .shift .ensures) (c .together .ensures)
-
-returns-2 : tie.Need-returns-2
-returns-2 c =
-    let m = c .before .before in
-    let s = m .before in
-    let a = s .args in
-    arm-x (a .s) (a .self) (s .pre .2) 1 (a .direction) (m .match .keys2) _ _ (omega arith) (c .before .shift2 .ensures) (c .together2 .ensures)
-
-returns-3 : tie.Need-returns-3
-returns-3 c =
-    let m = c .before .before in
-    let s = m .before in
-    let a = s .args in
-    arm-y (a .s) (a .self) (s .pre .2) 2 (a .direction) (m .match .keys3) _ _ (omega arith) (omega arith) (c .before .shift3 .ensures)
-    (c .together3 .ensures)
-
-returns-4 : tie.Need-returns-4
-returns-4 c =
-    let m = c .before .before in
-    let s = m .before in
-    let a = s .args in
-    arm-y (a .s) (a .self) (s .pre .2) 3 (a .direction) (m .match .keys4) _ _ (omega arith) (omega arith) (c .before .shift4 .ensures)
-    (c .together4 .ensures)
-
-returns-5 : tie.Need-returns-5
-returns-5 c =
-    let m = c .before .before in
-    let s = m .before in
-    let a = s .args in
-    arm-z (a .s) (a .self) (s .pre .2) 4 (a .direction) (m .match .keys5) _ _ (omega arith) (omega arith) (c .before .shift5 .ensures)
-    (c .together5 .ensures)
-
-returns-6 : tie.Need-returns-6
-returns-6 c =
-    let m = c .before .before in
-    let s = m .before in
-    let a = s .args in
     let r = m .match .rest in
-    let e : a .direction ≡ 5 = last (a .direction) (s .pre .0) (r .0 .0 .0 .0 .1) (r .0 .0 .0 .1) (r .0 .0 .1) (r .0 .1) (r .1) in
-    arm-z (a .s) (a .self) (s .pre .2) 5 (a .direction) e _ _ (omega arith) (omega arith) (c .before .shift6 .ensures) (c .together6 .ensures)
+    let e : s .args .direction ≡ 5 = last (s .args .direction) (s .pre .0) (r .0 .0 .0 .0 .1) (r .0 .0 .0 .1) (r .0 .0 .1) (r .0 .1) (r .1) in
+    arm-z _ _ (s .pre .2) 5 _ e _ _ (omega arith) (omega arith) (c .before .shift6 .ensures) (c .together6 .ensures)
 
 pub step-spec : {M : Type 1} → statement M
 step-spec =
     tie.close (tie.spec (λ c κs. search needs) (λ c κs. search needs) (λ c κs. search needs) (λ c κs. search needs)
     (λ c κs. search needs) (λ c κs. search needs) (λ c κs. search needs) (λ c κs. search needs) (λ c κs. search needs)
-    (λ c κs. search needs) (λ c κs. search needs) (λ c κs. search needs) returns returns-2 returns-3 returns-4 returns-5
-    returns-6)
+    (λ c κs. search needs) (λ c κs. search needs) (λ c κs. search needs)
+    (λ c. arm-x _ _ (c .before .before .before .pre .2) 0 _ (c .before .before .match .keys1) _ _ (omega arith) (c .before .shift .ensures)
+    (c .together .ensures))
+    (λ c. arm-x _ _ (c .before .before .before .pre .2) 1 _ (c .before .before .match .keys2) _ _ (omega arith) (c .before .shift2 .ensures)
+    (c .together2 .ensures))
+    (λ c. arm-y _ _ (c .before .before .before .pre .2) 2 _ (c .before .before .match .keys3) _ _ (omega arith) (omega arith) (c .before .shift3 .ensures)
+    (c .together3 .ensures))
+    (λ c. arm-y _ _ (c .before .before .before .pre .2) 3 _ (c .before .before .match .keys4) _ _ (omega arith) (omega arith) (c .before .shift4 .ensures)
+    (c .together4 .ensures))
+    (λ c. arm-z _ _ (c .before .before .before .pre .2) 4 _ (c .before .before .match .keys5) _ _ (omega arith) (omega arith) (c .before .shift5 .ensures)
+    (c .together5 .ensures))
+    returns)
