@@ -11,7 +11,7 @@ use lib.ListN.{length, getD, take, drop}
 use Rattle.mesh.specs.Tools.{table}
 use Rattle.mesh.specs.Mesh.{InRange, nodes, placeOf}
 use Rattle.mesh.specs.Cells.{mapOf}
-use Rattle.mesh.specs.Marks.{marksOf}
+use Rattle.rules.specs.Marks.{marksOf}
 use Rattle.mesh.specs.Answers.{granted, numbered, answerValue, _andThen_, checkMap, checkOrientation, checkRoom}
 use Rattle.mesh.specs.declared.Sizes.{Sizes}
 use Rattle.mesh.specs.declared.Refusal.{Refusal}
@@ -23,7 +23,7 @@ use Rattle.mesh.proofs.Tables.{length-table, getD-table}
 use Rattle.mesh.proofs.Fill.{front}
 use Rattle.mesh.proofs.Numbers.{nodes-le}
 use Rattle.mesh.proofs.Answers.{split, room-granted, map-granted}
-use Rattle.mesh.proofs.Marks.{marks-length}
+use Rattle.rules.proofs.Marks.{marks-length}
 use Rattle.marks.specs.Entry.{marksAnswer}
 use Rattle.touching.specs.Components.{tableOf, recordsOf, howMany}
 use Rattle.touching.specs.Entry.{componentsCheck, componentsAnswer, componentsTable, componentsRow, tableWritten, rowWritten}

@@ -5,7 +5,7 @@ use Prim.Native.Nat.{ℕ, _≤_}
 use lib.ListN.{length, take, getD}
 use Rattle.mesh.specs.Mesh.{nodes}
 use Rattle.mesh.specs.Cells.{mapOf}
-use Rattle.mesh.specs.Marks.{marksOf}
+use Rattle.rules.specs.Marks.{marksOf}
 use Rattle.mesh.specs.Answers.{granted, numbered, answerValue, _andThen_, checkRoom}
 use Rattle.mesh.specs.declared.Sizes.{Sizes}
 use Rattle.mesh.specs.declared.Answer.{Answer}

@@ -11,7 +11,7 @@ use lib.ListN.{length, length-take}
 use Rattle.mesh.specs.Tools.{between, bit, sum, count}
 use Rattle.mesh.specs.Mesh.{InRange, Inside, inRange, nodes, placeOf}
 use Rattle.mesh.specs.Cells.{mapOf, cellAt, mayEnd, badCell, firstBad, stateLength}
-use Rattle.mesh.specs.Marks.{isWord}
+use Rattle.rules.specs.Marks.{isWord}
 use Rattle.mesh.specs.Answers.{refusalBad, answerBad, _andThen_, unless, numbered, answerValue, checkSizes, checkCells, checkMap, checkOrientation, checkNode, checkDirection, checkRoom}
 use Rattle.mesh.proofs.Answers.{split, ok-of, sizes-granted, node-granted, map-granted}
 use Rattle.mesh.proofs.Bits.{bit-le}
@@ -22,7 +22,7 @@ use Rattle.mesh.specs.declared.Refusal.{Refusal}
 use Rattle.mesh.specs.declared.Refusal.the-variants.{BadSizes, BadLength, NoRoom, BadCell, BadNumber, Unsound, NoPair, NotHeld, FaultyEnd, NoPath, BadFile}
 use Rattle.mesh.specs.declared.Answer.{Answer}
 use Rattle.mesh.specs.declared.Answer.the-variants.{Done, Refused}
-use Rattle.mesh.specs.Marks.{marksOf}
+use Rattle.rules.specs.Marks.{marksOf}
 use Rattle.marks.specs.Entry.{marksAnswer}
 use Rattle.touching.specs.Components.{howMany}
 use Rattle.touching.specs.Entry.{componentsCheck, componentsAnswer}

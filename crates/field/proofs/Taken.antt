@@ -13,7 +13,7 @@ use lib.Seq.{getD-set-same, getD-set-other}
 use Rattle.mesh.specs.Mesh.{InRange, nodes, placeOf}
 use Rattle.mesh.specs.Steps.{next, neighbour}
 use Rattle.mesh.specs.Cells.{Map, wall}
-use Rattle.mesh.specs.Marks.{has, byteOf, isWord}
+use Rattle.rules.specs.Marks.{has, byteOf, isWord}
 use Rattle.mesh.specs.Answers.{_andThen_, unless, checkOrientation, checkNode, checkDirection}
 use Rattle.mesh.specs.declared.Sizes.{Sizes}
 use Rattle.mesh.specs.declared.Next.{Next}
@@ -23,7 +23,7 @@ use Rattle.mesh.specs.declared.Refusal.the-variants.{Unsound, NoPair, NotHeld}
 use Rattle.mesh.specs.declared.Answer.the-variants.{Done}
 use Rattle.mesh.proofs.Tests.{tried, holds-true}
 use Rattle.mesh.proofs.Answers.{sizes-of, split, orientation-granted}
-use Rattle.mesh.proofs.Bytes.{word-cases}
+use Rattle.rules.proofs.Bytes.{word-cases}
 use Rattle.talk.specs.State.{heard, mapIn, worksNode, pair, says}
 use Rattle.talk.specs.Sound.{within, sound, SoundOn, Sound}
 use Rattle.talk.specs.Hear.{addMarks, added, ruledAt, changed}

@@ -1,12 +1,12 @@
 // The checks before the calls on a state. Each takes every input.
+use maps::check_map;
 use mesh::Answer;
 use mesh::Refusal;
 use mesh::Sizes;
-use mesh::cells::check_map;
 use states::bytes::state_length;
 ghost use mathlib.Core.Path.{_≡_};
 ghost use Rattle.mesh.specs.Answers.{_andThen_, unless, checkOrientation, checkNode, checkDirection};
-ghost use Rattle.mesh.specs.Marks.{isWord};
+ghost use Rattle.rules.specs.Marks.{isWord};
 ghost use Rattle.talk.specs.Entries.{checkState, checkWord, freshAnswer};
 
 // Refused by r unless the test holds.

@@ -12,12 +12,12 @@ use Rattle.mesh.specs.Tools.{bit}
 use Rattle.mesh.specs.Mesh.{place, nodes, number, InRange, Inside}
 use Rattle.mesh.specs.Cells.{Map, faulty, faultyCell}
 use Rattle.mesh.specs.Fill.{Filled}
-use Rattle.mesh.specs.Marks.{toGo, shut}
+use Rattle.rules.specs.Marks.{toGo, shut}
 use Rattle.mesh.specs.declared.Sizes.{Sizes}
 use Rattle.mesh.specs.declared.Place.{Place}
 use Rattle.mesh.proofs.Bits.{bit-le}
 use Rattle.mesh.proofs.Numbers.{digit-eq, number-lt}
-use Rattle.mesh.proofs.Left.{to-go-in}
+use Rattle.rules.proofs.Left.{to-go-in}
 use Rattle.layers.specs.Sweep.{Right, rowsBefore, Swept, Stretch}
 use Rattle.layers.proofs.Rows.{withLeft, aheadY, aheadZ, shut-row}
 

@@ -13,11 +13,11 @@ use Rattle.mesh.specs.Tools.{bit, one, implies}
 use Rattle.mesh.specs.Mesh.{X, Y, Z, place, nodes, number, InRange, Inside}
 use Rattle.mesh.specs.Steps.{runsDown}
 use Rattle.mesh.specs.Cells.{Map, faulty, faultyCell}
-use Rattle.mesh.specs.Marks.{counted, flip, toGo, shut}
+use Rattle.rules.specs.Marks.{counted, flip, toGo, shut}
 use Rattle.mesh.proofs.Bits.{bit-one, bit-le}
 use Rattle.mesh.proofs.Numbers.{room, digit-lt, digit-eq, number-lt, number-eq}
-use Rattle.mesh.proofs.Left.{flip-lt, to-go-in, to-go-back}
-use Rattle.mesh.proofs.Marks.{shut-step}
+use Rattle.rules.proofs.Left.{flip-lt, to-go-in, to-go-back}
+use Rattle.rules.proofs.Marks.{shut-step}
 use Rattle.mesh.specs.declared.Place.{Place}
 use Rattle.layers.specs.Sweep.{rowOf, rowAt, Row, Ahead, Right, rowsBefore, Swept, Stretch}
 use Rattle.layers.proofs.Turns.{or-false}

@@ -9,9 +9,9 @@ use lib.Bits.{bitAnd, bitOr}
 use lib.ListN.{length, getD, set}
 use Rattle.mesh.specs.Tools.{bit, one}
 use Rattle.mesh.specs.Cells.{faultyCell}
-use Rattle.mesh.specs.Marks.{flip}
+use Rattle.rules.specs.Marks.{flip}
 use Rattle.mesh.proofs.Bits.{bit-of, bit-one, bit-le, bit-and, bit-or}
-use Rattle.mesh.proofs.Left.{flip-lt}
+use Rattle.rules.proofs.Left.{flip-lt}
 use Rattle.mesh.proofs.Fill.{fill-more}
 use Rattle.layers.specs.Sweep.{rowOf, rowAt, Row, Ahead}
 

@@ -7,7 +7,7 @@ use lib.ListN.{getD, length}
 use Rattle.mesh.specs.Tools.{bit, one}
 use Rattle.mesh.specs.Mesh.{nodes, number, InRange, Inside}
 use Rattle.mesh.specs.Cells.{Map, faulty, faultyCell}
-use Rattle.mesh.specs.Marks.{flip, toGo, shut}
+use Rattle.rules.specs.Marks.{flip, toGo, shut}
 use Rattle.mesh.specs.Fill.{Filled}
 use Rattle.mesh.specs.declared.Sizes.{Sizes}
 use Rattle.mesh.specs.declared.Place.{Place}

@@ -1,5 +1,5 @@
 // Two sweeps become the mark bytes.
-use mesh::cells::faulty_cell;
+use maps::faulty_cell;
 ghost use mathlib.Core.Path.{_≡_};
 ghost use Prim.Native.Nat.{_≤_};
 ghost use lib.ListN.{length};

@@ -1,7 +1,7 @@
 // A layer's rows, from the end ahead. They count in steps left, so that all orientations are one case.
+use maps::faulty_bit;
 use mesh::Place;
 use mesh::Sizes;
-use mesh::cells::faulty_bit;
 ghost use mathlib.Core.Path.{_≡_};
 ghost use mathlib.Core.Bool.{_&&_, _||_};
 ghost use Prim.Native.Nat.{_+_, _-_, _*_, _≤_, _<_};
@@ -10,7 +10,7 @@ ghost use Rattle.mesh.specs.Tools.{bit, one};
 ghost use Rattle.mesh.specs.Mesh.{Z, InRange, place, number};
 ghost use Rattle.mesh.specs.Steps.{runsDown};
 ghost use Rattle.mesh.specs.Cells.{mapOf, faultyCell};
-ghost use Rattle.mesh.specs.Marks.{flip};
+ghost use Rattle.rules.specs.Marks.{flip};
 ghost use Rattle.layers.specs.Sweep.{Ahead, Row, Swept, Stretch, Room};
 
 // The coordinate with a steps left on an axis of n.

@@ -9,11 +9,11 @@ use lib.Dec.{T, eqb}
 use Rattle.mesh.specs.Tools.{bit, implies}
 use Rattle.mesh.specs.Mesh.{InRange}
 use Rattle.mesh.specs.Steps.{ahead, reversed}
-use Rattle.mesh.specs.Marks.{Kind, useless, cantReach, has, byteOf, byteBlocks, rule, ruleByte}
+use Rattle.rules.specs.Marks.{Kind, useless, cantReach, has, byteOf, byteBlocks, rule, ruleByte}
 use Rattle.mesh.specs.declared.Sizes.{Sizes}
 use Rattle.mesh.proofs.Bits.{bit-le}
 use Rattle.mesh.proofs.Tests.{T-or, T-eq, all-same}
-use Rattle.mesh.proofs.Rule.{rule-same}
+use Rattle.rules.proofs.Rule.{rule-same}
 use Rattle.states.specs.Scan.{Bytes, six, looks}
 use Rattle.making.specs.Making.{isFirst, First, firstRule, sides}
 use Rattle.states.proofs.Packed.{packed-eq, packed-and}

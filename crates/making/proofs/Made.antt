@@ -12,7 +12,7 @@ use Rattle.mesh.specs.Tools.{bit, table}
 use Rattle.mesh.specs.Mesh.{Axis, X, Y, Z, span, on, nodes, number, placeOf, Inside}
 use Rattle.mesh.specs.Steps.{next, along}
 use Rattle.mesh.specs.Cells.{Map, mapOf, faultyCell, wall, stateLength}
-use Rattle.mesh.specs.Marks.{ruleByte, readBy}
+use Rattle.rules.specs.Marks.{ruleByte, readBy}
 use Rattle.mesh.specs.declared.Sizes.{Sizes}
 use Rattle.mesh.specs.declared.Place.{Place}
 use Rattle.mesh.specs.declared.Next.the-variants.{At, Edge}

@@ -9,7 +9,7 @@ use lib.ListN.{length, getD}
 use Rattle.mesh.specs.Tools.{bit}
 use Rattle.mesh.specs.Steps.{reversed}
 use Rattle.mesh.specs.Cells.{Map, faultyCell, stateLength}
-use Rattle.mesh.specs.Marks.{rule}
+use Rattle.rules.specs.Marks.{rule}
 use Rattle.mesh.specs.declared.Sizes.{Sizes}
 use Rattle.talk.specs.State.{own, heard}
 use Rattle.talk.specs.Sound.{freshHeard, freshOwn}

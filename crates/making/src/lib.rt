@@ -1,8 +1,8 @@
 // Making a fresh state: heard words are 0, and own bytes follow from that. The nodes in their order, row by row.
+use maps::faulty_bit;
+use maps::faulty_cell;
 use mesh::Place;
 use mesh::Sizes;
-use mesh::cells::faulty_bit;
-use mesh::cells::faulty_cell;
 use states::bytes::faulty_hears;
 use states::six::ahead;
 use states::six::six;
@@ -14,7 +14,7 @@ ghost use lib.ListN.{length, getD};
 ghost use Rattle.mesh.specs.Tools.{bit};
 ghost use Rattle.mesh.specs.Mesh.{InRange, Inside, nodes, number};
 ghost use Rattle.mesh.specs.Cells.{mapOf, faultyCell, stateLength};
-ghost use Rattle.mesh.specs.Marks.{rule};
+ghost use Rattle.rules.specs.Marks.{rule};
 ghost use Rattle.talk.specs.Sound.{fresh};
 ghost use Rattle.states.specs.Scan.{Held, Near, six};
 ghost use Rattle.making.specs.Making.{freshUp, freshDown, First, firstRule, sides, Stored, Put, Fresh};

@@ -16,10 +16,10 @@ use Rattle.mesh.specs.Tools.{bit}
 use Rattle.mesh.specs.Mesh.{X, Y, Z, place, nodes, number, InRange, Inside}
 use Rattle.mesh.specs.Steps.{runsDown}
 use Rattle.mesh.specs.Cells.{Map, faulty}
-use Rattle.mesh.specs.Marks.{flip, shut}
+use Rattle.rules.specs.Marks.{flip, shut}
 use Rattle.mesh.proofs.Bits.{bit-le}
 use Rattle.mesh.proofs.Numbers.{room}
-use Rattle.mesh.proofs.Left.{flip-lt}
+use Rattle.rules.proofs.Left.{flip-lt}
 use Rattle.mesh.specs.declared.Sizes.{Sizes}
 use Rattle.layers.specs.Sweep.{Swept}
 use Rattle.marks.specs.Clear.{inner, Apart}

@@ -8,7 +8,7 @@ use Rattle.mesh.specs.Tools.{table}
 use Rattle.mesh.specs.Mesh.{sizes, inRange}
 use Rattle.mesh.specs.Steps.{next}
 use Rattle.mesh.specs.Cells.{faultyCell, badCell, wall, firstBad}
-use Rattle.mesh.specs.Marks.{rule, marked, stuckWithin, stuck, byteOf, markAt, marksOf}
+use Rattle.rules.specs.Marks.{rule, marked, stuckWithin, stuck, byteOf, markAt, marksOf}
 use Rattle.mesh.specs.Answers.{checkMap}
 use Rattle.mesh.specs.declared.Refusal.{Refusal}
 use Rattle.mesh.specs.declared.Refusal.the-variants.{BadSizes}

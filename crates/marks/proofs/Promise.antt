@@ -6,10 +6,10 @@ use Prim.Native.Nat.{ℕ, _≤_}
 use lib.ListN.{length}
 use Rattle.mesh.specs.Mesh.{nodes, Inside}
 use Rattle.mesh.specs.Cells.{Map, mapOf}
-use Rattle.mesh.specs.Marks.{Kind, holds, byteOf, has}
-use Rattle.mesh.proofs.Marks.{rules-hold, rules-only, rules-least, rules-same}
+use Rattle.rules.specs.Marks.{Kind, holds, byteOf, has}
+use Rattle.rules.proofs.Marks.{rules-hold, rules-only, rules-least, rules-same}
 use Rattle.mesh.proofs.Answers.{kept}
-use Rattle.mesh.proofs.Bytes.{mark-works, mark-faulty, mark-has}
+use Rattle.rules.proofs.Bytes.{mark-works, mark-faulty, mark-has}
 use Rattle.mesh.specs.declared.Sizes.{Sizes}
 use Rattle.mesh.specs.declared.Place.{Place}
 use Rattle.mesh.specs.declared.Answer.{Answer}

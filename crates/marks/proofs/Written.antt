@@ -9,12 +9,12 @@ use Rattle.mesh.specs.Tools.{bit}
 use Rattle.mesh.specs.Mesh.{nodes, number, placeOf, Inside}
 use Rattle.mesh.specs.Steps.{reversed}
 use Rattle.mesh.specs.Cells.{Map, mapOf, faulty, faultyCell}
-use Rattle.mesh.specs.Marks.{toGo, shut, stuck, byteOf, markAt, marksOf}
+use Rattle.rules.specs.Marks.{toGo, shut, stuck, byteOf, markAt, marksOf}
 use Rattle.mesh.proofs.Bits.{bit-le}
 use Rattle.mesh.proofs.Fill.{front-kept, front-size, front}
 use Rattle.mesh.proofs.Numbers.{digit-lt, number-of, number-lt, place-in}
-use Rattle.mesh.proofs.Left.{to-go-in, to-go-back}
-use Rattle.mesh.proofs.Marks.{marks-length, marks-at}
+use Rattle.rules.proofs.Left.{to-go-in, to-go-back}
+use Rattle.rules.proofs.Marks.{marks-length, marks-at}
 use Rattle.mesh.specs.declared.Sizes.{Sizes}
 use Rattle.mesh.specs.declared.Place.{Place}
 use Rattle.marks.specs.Entry.{marksWritten}

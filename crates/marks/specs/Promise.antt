@@ -8,7 +8,7 @@ use lib.Dec.{T}
 use lib.ListN.{length, getD}
 use Rattle.mesh.specs.Mesh.{nodes, number, Inside}
 use Rattle.mesh.specs.Cells.{mapOf, faulty, works}
-use Rattle.mesh.specs.Marks.{Kind, Rules, Closed, byteOf, has}
+use Rattle.rules.specs.Marks.{Kind, Rules, Closed, byteOf, has}
 use Rattle.mesh.specs.declared.Sizes.{Sizes}
 use Rattle.mesh.specs.declared.Place.{Place}
 use Rattle.mesh.specs.declared.Answer.{Answer}

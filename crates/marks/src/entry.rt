@@ -1,10 +1,10 @@
 // The call for the marks of a map. It takes every input.
 use crate::sweep::sweep;
 use layers::join::join;
+use maps::check_map;
 use mesh::Answer;
 use mesh::Refusal;
 use mesh::Sizes;
-use mesh::cells::check_map;
 ghost use mathlib.Core.Path.{_≡_};
 ghost use Prim.Native.Nat.{_≤_};
 ghost use lib.ListN.{length};

@@ -2,9 +2,9 @@
 use layers::layer::ahead_z;
 use layers::layer::coordinate;
 use layers::layer::rows;
+use maps::faulty_bit;
 use mesh::Place;
 use mesh::Sizes;
-use mesh::cells::faulty_bit;
 ghost use mathlib.Core.Path.{_≡_};
 ghost use mathlib.Core.Bool.{false};
 ghost use mathlib.Core.List.{List};

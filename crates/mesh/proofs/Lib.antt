@@ -3,12 +3,6 @@ pub mod Tables
 pub mod Numbers
 pub mod Steps
 pub mod Strides
-pub mod Rule
-pub mod Left
-pub mod Stuck
-pub mod Marks
-pub mod Bytes
-pub mod ByteRule
 pub mod Whole
 pub mod Bits
 pub mod Fill

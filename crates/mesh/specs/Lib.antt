@@ -2,6 +2,5 @@ pub mod Tools
 pub mod Mesh
 pub mod Steps
 pub mod Cells
-pub mod Marks
 pub mod Fill
 pub mod Answers

@@ -1,6 +1,5 @@
-// The mesh: sizes, places, steps, and cells with their check. Its specs/ have the mark rules too.
+// The mesh: sizes, places and steps. Its specs/ say what a map's cells are and what the checks answer.
 
-pub mod cells;
 pub mod entries;
 pub mod numbering;
 pub mod refusing;

@@ -6,7 +6,7 @@ use native.Mathlib.Omega.{arith}
 use lib.Dec.{T, eqb}
 use Rattle.mesh.specs.Tools.{all}
 use Rattle.mesh.specs.Cells.{wall}
-use Rattle.mesh.specs.Marks.{rule, marked, stuckWithin, stuck, byteOf, markAt}
+use Rattle.rules.specs.Marks.{rule, marked, stuckWithin, stuck, byteOf, markAt}
 use Rattle.mesh.proofs.Tests.{T-all, T-and, T-eq}
 use Rattle.paths.specs.Promise.{markOn, MarksApart}
 use Rattle.paths.proofs.Computed.{computed}

@@ -12,7 +12,7 @@ use lib.ListN.{length, getD, drop, replicate, List·getD-append}
 use Rattle.mesh.specs.Mesh.{placeOf}
 use Rattle.mesh.specs.Steps.{next}
 use Rattle.mesh.specs.Cells.{mapOf, faultyCell, mayEnd, works}
-use Rattle.mesh.specs.Marks.{markAt}
+use Rattle.rules.specs.Marks.{markAt}
 use Rattle.mesh.specs.declared.Sizes.{Sizes}
 use Rattle.mesh.specs.declared.Place.{Place}
 use Rattle.mesh.specs.declared.Next.the-variants.{At}

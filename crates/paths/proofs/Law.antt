@@ -11,10 +11,10 @@ use Rattle.mesh.specs.Tools.{implies}
 use Rattle.mesh.specs.Mesh.{Axis, X, Y, Z, span, on, Inside}
 use Rattle.mesh.specs.Steps.{next, along, ahead, runsDown}
 use Rattle.mesh.specs.Cells.{Map, cellAt, faultyCell, works, mayPass, linked, wall}
-use Rattle.mesh.specs.Marks.{counted, useless, holds}
+use Rattle.rules.specs.Marks.{counted, useless, holds}
 use Rattle.mesh.proofs.Tests.{T-every, T-implies, tried, cond-false}
-use Rattle.mesh.proofs.Rule.{blocks-read}
-use Rattle.mesh.proofs.Marks.{useless-iff}
+use Rattle.rules.proofs.Rule.{blocks-read}
+use Rattle.rules.proofs.Marks.{useless-iff}
 use Rattle.mesh.proofs.Steps.{led, next-in, room, go, put}
 use Rattle.mesh.specs.declared.Sizes.{Sizes}
 use Rattle.mesh.specs.declared.Place.{Place}

@@ -6,7 +6,7 @@ use mathlib.Core.List.{List, [], _∷_, map}
 use Prim.Native.Nat.{ℕ}
 use Rattle.mesh.specs.Mesh.{sizes, placeOf}
 use Rattle.mesh.specs.Cells.{Map, mapOf, wall}
-use Rattle.mesh.specs.Marks.{rule, marked, stuckWithin, stuck, useless, holds}
+use Rattle.rules.specs.Marks.{rule, marked, stuckWithin, stuck, useless, holds}
 use Rattle.paths.specs.Differences.{aheadOrLevel}
 use Rattle.paths.specs.Paths.{leads}
 use Rattle.paths.specs.Promise.{P}

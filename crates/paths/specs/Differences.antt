@@ -6,7 +6,7 @@ use lib.Dec.{eqb, leb}
 use Rattle.mesh.specs.Tools.{implies}
 use Rattle.mesh.specs.Mesh.{Axis, X, Y, Z, on, every}
 use Rattle.mesh.specs.Steps.{along, runsDown}
-use Rattle.mesh.specs.Marks.{counted}
+use Rattle.rules.specs.Marks.{counted}
 use Rattle.mesh.specs.declared.Sizes.{Sizes}
 use Rattle.mesh.specs.declared.Place.{Place}
 use Rattle.paths.specs.declared.Wanted.{Wanted}

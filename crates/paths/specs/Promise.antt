@@ -13,7 +13,7 @@ use Rattle.mesh.specs.Tools.{count}
 use Rattle.mesh.specs.Mesh.{InRange, sizes, nodes, number, placeOf}
 use Rattle.mesh.specs.Steps.{next}
 use Rattle.mesh.specs.Cells.{Map, mapOf, cellAt, badCell, mayEnd, linked}
-use Rattle.mesh.specs.Marks.{markAt}
+use Rattle.rules.specs.Marks.{markAt}
 use Rattle.mesh.specs.Answers.{refusalNo}
 use Rattle.mesh.specs.declared.Sizes.{Sizes}
 use Rattle.mesh.specs.declared.Place.{Place}

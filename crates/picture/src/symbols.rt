@@ -1,6 +1,6 @@
 // The symbols of a picture, one for each node.
+use maps::may_pass;
 use mesh::Sizes;
-use mesh::cells::may_pass;
 use routes::entries::reached;
 ghost use mathlib.Core.Path.{_≡_};
 ghost use Prim.Native.Nat.{_≤_};

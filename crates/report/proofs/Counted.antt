@@ -10,13 +10,13 @@ use lib.Seq.{take-at}
 use Rattle.mesh.specs.Tools.{count}
 use Rattle.mesh.specs.Mesh.{nodes, placeOf}
 use Rattle.mesh.specs.Cells.{Map, mapOf, faultyCell, faulty}
-use Rattle.mesh.specs.Marks.{Kind, useless, cantReach, has, holds, markAt, marksOf}
+use Rattle.rules.specs.Marks.{Kind, useless, cantReach, has, holds, markAt, marksOf}
 use Rattle.mesh.specs.Answers.{checkMap}
 use Rattle.mesh.specs.declared.Sizes.{Sizes}
 use Rattle.mesh.specs.declared.Answer.the-variants.{Done}
 use Rattle.mesh.proofs.Numbers.{nodes-le, number-of, place-in}
-use Rattle.mesh.proofs.Bytes.{mark-has}
-use Rattle.mesh.proofs.Marks.{marks-length, marks-at}
+use Rattle.rules.proofs.Bytes.{mark-has}
+use Rattle.rules.proofs.Marks.{marks-length, marks-at}
 use Rattle.mesh.proofs.Answers.{map-granted}
 use Rattle.marks.specs.Entry.{marksAnswer, marksWritten, marksOut}
 use Rattle.touching.specs.Components.{howMany}

@@ -7,7 +7,7 @@ use Rattle.mesh.specs.Tools.{all, sum, table}
 use Rattle.mesh.specs.Mesh.{sizes, inRange}
 use Rattle.mesh.specs.Steps.{next}
 use Rattle.mesh.specs.Cells.{faultyCell, badCell, wall, firstBad}
-use Rattle.mesh.specs.Marks.{rule, marked, stuckWithin, stuck, byteOf, markAt, marksOf}
+use Rattle.rules.specs.Marks.{rule, marked, stuckWithin, stuck, byteOf, markAt, marksOf}
 use Rattle.touching.specs.Lists.{anyOf, keep, least}
 use Rattle.touching.specs.Touch.{unsafeNodes, touch, grown, component}
 use Rattle.touching.specs.Components.{lowest, lowestNodes, howMany}

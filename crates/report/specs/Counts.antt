@@ -6,7 +6,7 @@ use lib.ListN.{length, getD}
 use Rattle.mesh.specs.Tools.{count}
 use Rattle.mesh.specs.Mesh.{nodes, placeOf}
 use Rattle.mesh.specs.Cells.{Map, faultyCell, faulty}
-use Rattle.mesh.specs.Marks.{Kind, useless, cantReach, holds, marksOf}
+use Rattle.rules.specs.Marks.{Kind, useless, cantReach, holds, marksOf}
 use Rattle.touching.specs.Components.{howMany}
 use Rattle.report.specs.declared.Figures.{Figures}
 

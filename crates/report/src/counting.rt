@@ -1,5 +1,5 @@
 // Counting nodes.
-use mesh::cells::faulty_bit;
+use maps::faulty_bit;
 ghost use mathlib.Core.Path.{_≡_};
 ghost use Prim.Native.Nat.{_<_};
 ghost use Rattle.report.specs.Counts.{faultyAmong, withBit};

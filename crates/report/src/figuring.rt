@@ -8,7 +8,7 @@ ghost use mathlib.Core.Path.{_≡_};
 ghost use Prim.Native.Nat.{_≤_};
 ghost use lib.ListN.{length};
 ghost use Rattle.mesh.specs.Cells.{mapOf};
-ghost use Rattle.mesh.specs.Marks.{marksOf};
+ghost use Rattle.rules.specs.Marks.{marksOf};
 ghost use Rattle.mesh.specs.Answers.{checkMap};
 ghost use Rattle.mesh.specs.declared.Answer.the-variants.{Done};
 ghost use Rattle.touching.specs.Components.{howMany};

@@ -8,7 +8,7 @@ use lib.Dec.{eqb}
 use Rattle.mesh.specs.Tools.{bit, sum, count}
 use Rattle.mesh.specs.Mesh.{nodes, placeOf}
 use Rattle.mesh.specs.Cells.{Map, mapOf}
-use Rattle.mesh.specs.Marks.{Kind, useless, cantReach, has, holds, markAt}
+use Rattle.rules.specs.Marks.{Kind, useless, cantReach, has, holds, markAt}
 use Rattle.mesh.specs.Answers.{checkMap}
 use Rattle.mesh.specs.declared.Sizes.{Sizes}
 use Rattle.mesh.specs.declared.Answer.the-variants.{Done}
@@ -16,7 +16,7 @@ use Rattle.mesh.specs.declared.Numbered.the-variants.{Number, NotNumbered}
 use Rattle.mesh.specs.declared.Refusal.{Refusal}
 use Rattle.mesh.proofs.Tables.{sum-same}
 use Rattle.mesh.proofs.Numbers.{place-in}
-use Rattle.mesh.proofs.Bytes.{mark-has}
+use Rattle.rules.proofs.Bytes.{mark-has}
 use Rattle.talk.specs.State.{own, mapIn, faultyNode}
 use Rattle.talk.specs.Hear.{outstanding}
 use Rattle.talk.specs.Entries.{outstandingAnswer}

@@ -6,7 +6,7 @@ use lib.Dec.{eqb}
 use Rattle.mesh.specs.Tools.{bit, sum}
 use Rattle.mesh.specs.Mesh.{nodes}
 use Rattle.mesh.specs.Cells.{Map}
-use Rattle.mesh.specs.Marks.{useless, cantReach, has}
+use Rattle.rules.specs.Marks.{useless, cantReach, has}
 use Rattle.mesh.specs.declared.Sizes.{Sizes}
 use Rattle.talk.specs.State.{own}
 use Rattle.talk.specs.Hear.{outstandingOn}

@@ -3,7 +3,7 @@ use mathlib.Core.Logic.{_≢_}
 use mathlib.Core.Path.{_≡_}
 use Prim.Native.Nat.{ℕ, _+_, _<_, _≤_}
 use Rattle.mesh.specs.Cells.{Map}
-use Rattle.mesh.specs.Marks.{useless, cantReach}
+use Rattle.rules.specs.Marks.{useless, cantReach}
 use Rattle.mesh.specs.declared.Numbered.the-variants.{Number}
 use Rattle.talk.specs.Sound.{fresh}
 use Rattle.talk.specs.Entries.{outstandingAnswer}

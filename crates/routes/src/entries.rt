@@ -2,12 +2,12 @@
 use crate::follow::write_route;
 use crate::spread::total;
 use crate::spread::write_reached;
+use maps::check_map;
+use maps::may_end;
 use mesh::Answer;
 use mesh::Numbered;
 use mesh::Refusal;
 use mesh::Sizes;
-use mesh::cells::check_map;
-use mesh::cells::may_end;
 use paths::Verdict;
 use sweeps::offers::offered;
 use sweeps::signed::hops;

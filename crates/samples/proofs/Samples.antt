@@ -1,7 +1,7 @@
 -- The starred samples of 01 hold of the definitions: one statement about the whole table, proved by computation. Assumes nothing.
 use mathlib.Core.Path.{_≡_, refl}
 use mathlib.Core.List.{map}
-use Rattle.mesh.specs.Marks.{marked, stuckWithin, stuck, markAt, marksOf}
+use Rattle.rules.specs.Marks.{marked, stuckWithin, stuck, markAt, marksOf}
 use Rattle.marks.specs.Entry.{marksAnswer, marksWritten}
 use Rattle.touching.specs.Lists.{anyOf, keep, least, greatest}
 use Rattle.touching.specs.Touch.{unsafeNodes, touch, grown, component}

@@ -9,7 +9,7 @@ use lib.Dec.{T, eqb}
 use Rattle.mesh.specs.Tools.{bit, implies, all}
 use Rattle.mesh.specs.Mesh.{X, Y, Z, InRange}
 use Rattle.mesh.specs.Steps.{runsDown, along, ahead}
-use Rattle.mesh.specs.Marks.{counted, rule}
+use Rattle.rules.specs.Marks.{counted, rule}
 use Rattle.mesh.specs.declared.Sizes.{Sizes}
 use Rattle.mesh.proofs.Bits.{bit-le, bit-and}
 use Rattle.mesh.proofs.Tests.{T-eq, T-all, all-same}

@@ -10,7 +10,7 @@ use borrow.Author.Tests.{eq-eqb}
 use Rattle.mesh.specs.Tools.{bit, sum, count}
 use Rattle.mesh.specs.Mesh.{nodes, number, placeOf}
 use Rattle.mesh.specs.Cells.{Map, wall}
-use Rattle.mesh.specs.Marks.{readBy}
+use Rattle.rules.specs.Marks.{readBy}
 use Rattle.mesh.specs.declared.Sizes.{Sizes}
 use Rattle.mesh.proofs.Tests.{T-no, tried, holds-true, cond-true, cond-false}
 use Rattle.mesh.proofs.Tables.{sum-same, sum-zero}

@@ -9,7 +9,7 @@ use borrow.Author.Tests.{le-leb}
 use Rattle.mesh.specs.Tools.{implies, all}
 use Rattle.mesh.specs.Mesh.{X, Y, Z, InRange}
 use Rattle.mesh.specs.Steps.{ahead}
-use Rattle.mesh.specs.Marks.{counted, rule}
+use Rattle.rules.specs.Marks.{counted, rule}
 use Rattle.mesh.specs.declared.Sizes.{Sizes}
 use Rattle.mesh.proofs.Tests.{T-and, T-eq, T-all, bool-ext}
 

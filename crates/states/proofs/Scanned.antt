@@ -14,7 +14,7 @@ use Rattle.mesh.specs.Tools.{bit, implies, all}
 use Rattle.mesh.specs.Mesh.{nodes, number, placeOf, Inside}
 use Rattle.mesh.specs.Steps.{next, ahead, runsDown, reversed}
 use Rattle.mesh.specs.Cells.{Map, stateLength}
-use Rattle.mesh.specs.Marks.{useless, cantReach, has, byteOf, isWord, rule, byteBlocks, ruleByte, readBy}
+use Rattle.rules.specs.Marks.{useless, cantReach, has, byteOf, isWord, rule, byteBlocks, ruleByte, readBy}
 use Rattle.mesh.specs.declared.Sizes.{Sizes}
 use Rattle.mesh.specs.declared.Place.{Place}
 use Rattle.mesh.specs.declared.Next.{Next}
@@ -23,9 +23,9 @@ use Rattle.mesh.proofs.Tests.{T-and, T-or, T-implies, T-eq, T-all, T-cond, all-
 use Rattle.mesh.proofs.Numbers.{number-lt, place-in}
 use Rattle.mesh.proofs.Steps.{dir-lt, next-in}
 use Rattle.mesh.proofs.Strides.{all-rows}
-use Rattle.mesh.proofs.Rule.{rule-same}
-use Rattle.mesh.proofs.Bytes.{both, byte-word, word-cases, word-not-one}
-use Rattle.mesh.proofs.ByteRule.{ruled-word}
+use Rattle.rules.proofs.Rule.{rule-same}
+use Rattle.rules.proofs.Bytes.{both, byte-word, word-cases, word-not-one}
+use Rattle.rules.proofs.ByteRule.{ruled-word}
 use Rattle.talk.specs.State.{own, heard, mapIn}
 use Rattle.talk.specs.Sound.{within, faultyHears, heardRight, workingRight, faultyRight, nodeRight, soundOn, sound}
 use Rattle.states.specs.Scan.{isOwn, isHeard, fits, hinders, quickRule, shows, nodeTest, rowTest}

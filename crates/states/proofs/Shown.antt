@@ -9,7 +9,7 @@ use lib.ListN.{getD}
 use Rattle.mesh.specs.Mesh.{Axis, span, on, nodes, number, placeOf, Inside}
 use Rattle.mesh.specs.Steps.{next, along}
 use Rattle.mesh.specs.Cells.{wall}
-use Rattle.mesh.specs.Marks.{readBy}
+use Rattle.rules.specs.Marks.{readBy}
 use Rattle.mesh.specs.declared.Sizes.{Sizes}
 use Rattle.mesh.specs.declared.Place.{Place}
 use Rattle.mesh.specs.declared.Next.{Next}

@@ -11,7 +11,7 @@ use Rattle.mesh.specs.Tools.{bit, all, sum, count}
 use Rattle.mesh.specs.Mesh.{X, Y, Z, InRange, number, placeOf}
 use Rattle.mesh.specs.Steps.{runsDown, reversed}
 use Rattle.mesh.specs.Cells.{stateLength}
-use Rattle.mesh.specs.Marks.{counted, rule, isWord, readAt}
+use Rattle.rules.specs.Marks.{counted, rule, isWord, readAt}
 use Rattle.mesh.specs.declared.Sizes.{Sizes}
 use Rattle.talk.specs.State.{own, heard, mapIn}
 use Rattle.talk.specs.Sound.{faultyHears}

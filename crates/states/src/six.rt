@@ -6,7 +6,7 @@ ghost use Prim.Native.Nat.{ℕ, _+_, _*_, _<_, _≤_};
 ghost use lib.Dec.{eqb};
 ghost use Rattle.mesh.specs.Tools.{bit};
 ghost use Rattle.mesh.specs.Mesh.{InRange, Z};
-ghost use Rattle.mesh.specs.Marks.{counted, rule};
+ghost use Rattle.rules.specs.Marks.{counted, rule};
 ghost use Rattle.talk.specs.State.{heard};
 ghost use Rattle.states.specs.Scan.{Held, Bytes, six, ones, looks, hinders, quickRule};
 

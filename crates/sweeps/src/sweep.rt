@@ -3,9 +3,9 @@
 use crate::Between;
 use crate::Run;
 use crate::Ways;
+use maps::may_pass;
 use mesh::Place;
 use mesh::Sizes;
-use mesh::cells::may_pass;
 ghost use mathlib.Core.Path.{_≡_};
 ghost use Prim.Native.Nat.{_+_, _≤_, _<_};
 ghost use lib.ListN.{length};

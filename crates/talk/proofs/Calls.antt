@@ -10,7 +10,7 @@ use lib.Dec.{T, eqb}
 use lib.ListN.{getD, length}
 use Rattle.mesh.specs.Mesh.{inRange, nodes}
 use Rattle.mesh.specs.Cells.{Map, stateLength}
-use Rattle.mesh.specs.Marks.{isWord, ruleByte}
+use Rattle.rules.specs.Marks.{isWord, ruleByte}
 use Rattle.mesh.specs.Answers.{granted, _andThen_, unless, checkMap, checkOrientation, checkNode, checkDirection}
 use Rattle.mesh.specs.declared.Sizes.{Sizes}
 use Rattle.mesh.specs.declared.Refusal.{Refusal}

@@ -4,7 +4,7 @@ use Rattle.mesh.specs.Tools.{all, sum, table}
 use Rattle.mesh.specs.Mesh.{inRange}
 use Rattle.mesh.specs.Steps.{next}
 use Rattle.mesh.specs.Cells.{faultyCell, badCell, wall, linked, firstBad}
-use Rattle.mesh.specs.Marks.{rule, byteOf, has, isWord, byteBlocks, ruleByte}
+use Rattle.rules.specs.Marks.{rule, byteOf, has, isWord, byteBlocks, ruleByte}
 use Rattle.mesh.specs.Answers.{checkMap}
 use Rattle.talk.specs.State.{cellsIn, pair}
 use Rattle.talk.specs.Sound.{within, faultyHears, workingRight, faultyRight, nodeRight, soundOn, sound, freshHeard, freshOwn, fresh}

@@ -9,7 +9,7 @@ use lib.ListN.{length}
 use Rattle.mesh.specs.Mesh.{nodes, number, placeOf}
 use Rattle.mesh.specs.Steps.{next}
 use Rattle.mesh.specs.Cells.{Map, wall, stateLength}
-use Rattle.mesh.specs.Marks.{useless, cantReach, has, ruleByte, isWord}
+use Rattle.rules.specs.Marks.{useless, cantReach, has, ruleByte, isWord}
 use Rattle.mesh.specs.declared.Sizes.{Sizes}
 use Rattle.mesh.specs.declared.Place.{Place}
 use Rattle.mesh.specs.declared.Next.{Next}

@@ -10,7 +10,7 @@ use Rattle.mesh.specs.Tools.{bit, sum}
 use Rattle.mesh.specs.Mesh.{nodes, number, placeOf, Inside}
 use Rattle.mesh.specs.Steps.{next, neighbour}
 use Rattle.mesh.specs.Cells.{Map, works, wall}
-use Rattle.mesh.specs.Marks.{Kind, heading, holds, has, isWord, rule, blocks, marked, markAt, byteBlocks, ruleByte, readBy, readAt}
+use Rattle.rules.specs.Marks.{Kind, heading, holds, has, isWord, rule, blocks, marked, markAt, byteBlocks, ruleByte, readBy, readAt}
 use Rattle.mesh.specs.declared.Sizes.{Sizes}
 use Rattle.mesh.specs.declared.Place.{Place}
 use Rattle.mesh.specs.declared.Next.{Next}
@@ -18,9 +18,9 @@ use Rattle.mesh.specs.declared.Next.the-variants.{At, Edge}
 use Rattle.mesh.proofs.Tests.{T-and, tried, cond-true, cond-false}
 use Rattle.mesh.proofs.Tables.{sum-part}
 use Rattle.mesh.proofs.Numbers.{number-lt, number-of, place-in, place-of}
-use Rattle.mesh.proofs.Stuck.{greatest}
-use Rattle.mesh.proofs.Bytes.{has-byte, one-none, mark-faulty}
-use Rattle.mesh.proofs.ByteRule.{byte-rule, bytes-unique}
+use Rattle.rules.proofs.Stuck.{greatest}
+use Rattle.rules.proofs.Bytes.{has-byte, one-none, mark-faulty}
+use Rattle.rules.proofs.ByteRule.{byte-rule, bytes-unique}
 use Rattle.talk.specs.State.{own, heard, faultyNode, worksNode, pair, says}
 use Rattle.talk.specs.Sound.{_noMoreThan_, SoundOn}
 use Rattle.talk.specs.Hear.{news, outstandingOn}

@@ -9,10 +9,10 @@ use lib.ListN.{length}
 use Rattle.mesh.specs.Tools.{all, table}
 use Rattle.mesh.specs.Mesh.{nodes}
 use Rattle.mesh.specs.Cells.{Map, mapOf, stateLength}
-use Rattle.mesh.specs.Marks.{ruleByte}
+use Rattle.rules.specs.Marks.{ruleByte}
 use Rattle.mesh.specs.declared.Sizes.{Sizes}
 use Rattle.mesh.proofs.Tests.{T-le, bool-ext}
-use Rattle.mesh.proofs.ByteRule.{flat-byte}
+use Rattle.rules.proofs.ByteRule.{flat-byte}
 use Rattle.talk.specs.State.{mapIn}
 use Rattle.talk.specs.Sound.{workingRight, nodeRight, soundOn, sound, freshOwn, freshByte, fresh}
 use Rattle.talk.specs.Hear.{ruledAt, changed}

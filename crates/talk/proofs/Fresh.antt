@@ -8,14 +8,14 @@ use lib.Dec.{T}
 use Rattle.mesh.specs.Mesh.{nodes, placeOf}
 use Rattle.mesh.specs.Steps.{next}
 use Rattle.mesh.specs.Cells.{Map, works, wall, stateLength}
-use Rattle.mesh.specs.Marks.{useless, cantReach, heading, has, byteOf, isWord, rule, blocks, marked, stuckWithin, ruleByte, readBy, readAt}
+use Rattle.rules.specs.Marks.{useless, cantReach, heading, has, byteOf, isWord, rule, blocks, marked, stuckWithin, ruleByte, readBy, readAt}
 use Rattle.mesh.specs.declared.Place.{Place}
 use Rattle.mesh.specs.declared.Next.{Next}
 use Rattle.mesh.specs.declared.Next.the-variants.{At, Edge}
 use Rattle.mesh.proofs.Tests.{cond-true, cond-false, holds-true}
 use Rattle.mesh.proofs.Tables.{length-table, getD-table}
 use Rattle.mesh.proofs.Steps.{dir-led}
-use Rattle.mesh.proofs.ByteRule.{byte-rule}
+use Rattle.rules.proofs.ByteRule.{byte-rule}
 use Rattle.talk.specs.State.{own, heard, faultyNode, worksNode, pair, says}
 use Rattle.talk.specs.Sound.{_noMoreThan_, faultyHears, SoundOn, freshHeard, freshOwn, freshByte, fresh}
 use Rattle.talk.specs.Promise.{FreshPromise}

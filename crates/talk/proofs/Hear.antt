@@ -12,11 +12,11 @@ use lib.Seq.{getD-set-same, getD-set-other}
 use Rattle.mesh.specs.Mesh.{nodes, placeOf}
 use Rattle.mesh.specs.Steps.{neighbour}
 use Rattle.mesh.specs.Cells.{Map, stateLength}
-use Rattle.mesh.specs.Marks.{Kind, has, isWord, ruleByte}
+use Rattle.rules.specs.Marks.{Kind, has, isWord, ruleByte}
 use Rattle.mesh.specs.declared.Sizes.{Sizes}
 use Rattle.mesh.proofs.Tests.{T-or, T-no, bool-ext}
 use Rattle.mesh.proofs.Steps.{dir-led}
-use Rattle.mesh.proofs.Bytes.{has-byte, byte-word, word-same}
+use Rattle.rules.proofs.Bytes.{has-byte, byte-word, word-same}
 use Rattle.talk.specs.State.{own, heard, faultyNode, pair, says}
 use Rattle.talk.specs.Sound.{_noMoreThan_, SoundOn}
 use Rattle.talk.specs.Hear.{addMarks, added, ruledAt, changed}

@@ -9,7 +9,7 @@ use lib.Dec.{T}
 use lib.ListN.{length, getD, replicate}
 use Rattle.mesh.specs.Mesh.{sizes, nodes, placeOf}
 use Rattle.mesh.specs.Cells.{Map, mapOf}
-use Rattle.mesh.specs.Marks.{heading, byteOf, marked, stuckWithin, stuck, markAt}
+use Rattle.rules.specs.Marks.{heading, byteOf, marked, stuckWithin, stuck, markAt}
 use Rattle.mesh.specs.declared.Sizes.{Sizes}
 use Rattle.mesh.specs.declared.Refusal.{Refusal}
 use Rattle.mesh.specs.declared.Refusal.the-variants.{BadSizes, Unsound, NotHeld}

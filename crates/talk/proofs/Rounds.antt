@@ -12,12 +12,12 @@ use Rattle.mesh.specs.Tools.{bit, count}
 use Rattle.mesh.specs.Mesh.{inRange, nodes, placeOf}
 use Rattle.mesh.specs.Steps.{neighbour}
 use Rattle.mesh.specs.Cells.{Map}
-use Rattle.mesh.specs.Marks.{Kind, useless, cantReach, has}
+use Rattle.rules.specs.Marks.{Kind, useless, cantReach, has}
 use Rattle.mesh.specs.declared.Sizes.{Sizes}
 use Rattle.mesh.proofs.Tests.{T-and, T-eq, bool-ext}
 use Rattle.mesh.proofs.Tables.{sum-zero, count-mono, count-tight}
 use Rattle.mesh.proofs.Numbers.{place-in}
-use Rattle.mesh.proofs.Bytes.{word-same, mark-has}
+use Rattle.rules.proofs.Bytes.{word-same, mark-has}
 use Rattle.talk.specs.State.{own, heard, worksNode, pair, says}
 use Rattle.talk.specs.Sound.{_noMoreThan_, SoundOn}
 use Rattle.talk.specs.Hear.{news, outstandingOn}

@@ -5,12 +5,12 @@ use mathlib.Core.Logic.{inr}
 use Prim.Native.Nat.{ℕ, _<_}
 use lib.Dec.{T, eqb}
 use Rattle.mesh.specs.Steps.{ahead, runsDown}
-use Rattle.mesh.specs.Marks.{Kind, heading, byteOf, has, isWord, rule, byteBlocks, ruleByte}
+use Rattle.rules.specs.Marks.{Kind, heading, byteOf, has, isWord, rule, byteBlocks, ruleByte}
 use Rattle.mesh.specs.declared.Sizes.{Sizes}
 use Rattle.mesh.proofs.Tests.{T-or}
 use Rattle.mesh.proofs.Steps.{dir-lt}
-use Rattle.mesh.proofs.Rule.{rule-same, rule-grows}
-use Rattle.mesh.proofs.Bytes.{has-byte, word-not-one}
+use Rattle.rules.proofs.Rule.{rule-same, rule-grows}
+use Rattle.rules.proofs.Bytes.{has-byte, word-not-one}
 use Rattle.talk.specs.Sound.{_noMoreThan_}
 
 -- a byte that holds the marks of a word blocks where the word does

@@ -9,14 +9,14 @@ use lib.Dec.{T}
 use Rattle.mesh.specs.Tools.{sum, count}
 use Rattle.mesh.specs.Mesh.{nodes, number, placeOf, Inside}
 use Rattle.mesh.specs.Cells.{Map, mapOf, wall}
-use Rattle.mesh.specs.Marks.{isWord}
+use Rattle.rules.specs.Marks.{isWord}
 use Rattle.mesh.specs.declared.Sizes.{Sizes}
 use Rattle.mesh.specs.declared.Place.{Place}
 use Rattle.mesh.proofs.Tests.{T-eq, tried, bool-ext}
 use Rattle.mesh.proofs.Numbers.{number-lt, place-in}
 use Rattle.mesh.proofs.Steps.{next-in}
-use Rattle.mesh.proofs.Bytes.{word-not-one}
-use Rattle.mesh.proofs.ByteRule.{ruled-word}
+use Rattle.rules.proofs.Bytes.{word-not-one}
+use Rattle.rules.proofs.ByteRule.{ruled-word}
 use Rattle.talk.specs.State.{own, heard, mapIn, faultyNode, worksNode, StateOf, pair}
 use Rattle.talk.specs.Sound.{faultyHears, SoundOn, Sound}
 use Rattle.talk.specs.Hear.{differs, outstandingOn, outstanding}

@@ -9,14 +9,14 @@ use lib.Dec.{T, eqb}
 use Rattle.mesh.specs.Mesh.{inRange, nodes, placeOf}
 use Rattle.mesh.specs.Steps.{next, ahead, neighbour}
 use Rattle.mesh.specs.Cells.{Map, wall}
-use Rattle.mesh.specs.Marks.{Kind, heading, has, rule, blocks, stuckWithin, stuck, byteBlocks, ruleByte}
+use Rattle.rules.specs.Marks.{Kind, heading, has, rule, blocks, stuckWithin, stuck, byteBlocks, ruleByte}
 use Rattle.mesh.specs.declared.Sizes.{Sizes}
 use Rattle.mesh.specs.declared.Place.{Place}
 use Rattle.mesh.specs.declared.Next.the-variants.{At}
 use Rattle.mesh.proofs.Tests.{T-or, tried, holds-true}
 use Rattle.mesh.proofs.Numbers.{place-of}
-use Rattle.mesh.proofs.Rule.{rule-iff, blocks-read, marked-iff}
-use Rattle.mesh.proofs.Bytes.{has-byte, one-blocks}
+use Rattle.rules.proofs.Rule.{rule-iff, blocks-read, marked-iff}
+use Rattle.rules.proofs.Bytes.{has-byte, one-blocks}
 use Rattle.talk.specs.State.{own, heard, worksNode, pair}
 use Rattle.talk.specs.Sound.{SoundOn}
 use Rattle.talk.specs.Hear.{outstandingOn}

@@ -4,7 +4,7 @@ use Prim.Native.Nat.{ℕ}
 use lib.Dec.{eqb}
 use lib.ListN.{length}
 use Rattle.mesh.specs.Cells.{mapOf, stateLength}
-use Rattle.mesh.specs.Marks.{isWord}
+use Rattle.rules.specs.Marks.{isWord}
 use Rattle.mesh.specs.Answers.{granted, numbered, _andThen_, unless, checkSizes, checkMap, checkOrientation, checkNode, checkDirection}
 use Rattle.mesh.specs.declared.Sizes.{Sizes}
 use Rattle.mesh.specs.declared.Refusal.the-variants.{BadLength, BadNumber, Unsound, NoPair, NotHeld}

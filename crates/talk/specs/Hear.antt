@@ -7,7 +7,7 @@ use lib.ListN.{set}
 use Rattle.mesh.specs.Tools.{sum, count}
 use Rattle.mesh.specs.Mesh.{nodes}
 use Rattle.mesh.specs.Cells.{Map}
-use Rattle.mesh.specs.Marks.{has, byteOf, ruleByte}
+use Rattle.rules.specs.Marks.{has, byteOf, ruleByte}
 use Rattle.mesh.specs.declared.Sizes.{Sizes}
 use Rattle.talk.specs.State.{heard, mapIn, pair, says}
 

@@ -10,7 +10,7 @@ use lib.ListN.{getD}
 use Rattle.mesh.specs.Tools.{count}
 use Rattle.mesh.specs.Mesh.{nodes, placeOf}
 use Rattle.mesh.specs.Cells.{Map}
-use Rattle.mesh.specs.Marks.{Kind, has, isWord, heading, holds, byteOf, stuckWithin, markAt}
+use Rattle.rules.specs.Marks.{Kind, has, isWord, heading, holds, byteOf, stuckWithin, markAt}
 use Rattle.mesh.specs.declared.Sizes.{Sizes}
 use Rattle.mesh.specs.declared.Refusal.{Refusal}
 use Rattle.mesh.specs.declared.Answer.the-variants.{Done, Refused}

@@ -9,7 +9,7 @@ use Rattle.mesh.specs.Tools.{implies, all, table}
 use Rattle.mesh.specs.Mesh.{nodes, number, placeOf}
 use Rattle.mesh.specs.Steps.{next}
 use Rattle.mesh.specs.Cells.{Map, faulty, wall, stateLength}
-use Rattle.mesh.specs.Marks.{Kind, useless, cantReach, has, ruleByte, readAt, isWord}
+use Rattle.rules.specs.Marks.{Kind, useless, cantReach, has, ruleByte, readAt, isWord}
 use Rattle.mesh.specs.declared.Sizes.{Sizes}
 use Rattle.mesh.specs.declared.Place.{Place}
 use Rattle.mesh.specs.declared.Next.{Next}

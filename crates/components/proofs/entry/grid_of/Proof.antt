@@ -7,10 +7,10 @@ use lib.ListN.{length, take, drop}
 use lib.Seq.{take-at}
 use Rattle.mesh.specs.Mesh.{nodes}
 use Rattle.mesh.specs.Cells.{mapOf}
-use Rattle.mesh.specs.Marks.{marksOf}
+use Rattle.rules.specs.Marks.{marksOf}
 use Rattle.mesh.specs.declared.Sizes.{Sizes}
 use Rattle.mesh.specs.declared.Answer.the-variants.{Done}
-use Rattle.mesh.proofs.Marks.{marks-length}
+use Rattle.rules.proofs.Marks.{marks-length}
 use Rattle.marks.specs.Entry.{marksAnswer, marksWritten, marksOut}
 use Rattle.marks.proofs.Answer.{Granted, marks-granted}
 use Rattle.components.specs.Grid.{gridAt}

@@ -2,7 +2,7 @@
 use mathlib.Core.Path.{_≡_, _∙_, sym}
 use lib.Dec.{ltb, leb}
 use Rattle.mesh.specs.Mesh.{nodes}
-use Rattle.mesh.specs.Marks.{isWord}
+use Rattle.rules.specs.Marks.{isWord}
 use Rattle.mesh.specs.Answers.{_andThen_, checkOrientation}
 use Rattle.mesh.specs.declared.Refusal.the-variants.{BadNumber}
 use Rattle.mesh.specs.declared.Answer.the-variants.{Done}

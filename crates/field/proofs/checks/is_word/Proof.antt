@@ -1,6 +1,6 @@
 -- `field::checks::is_word` meets its contract: it asks what the definition does. Assumes nothing.
 use mathlib.Core.Path.{refl}
-use Rattle.mesh.specs.Marks.{isWord}
+use Rattle.rules.specs.Marks.{isWord}
 use Rattle.field.proofs.checks.is_word.Statement.{statement}
 use Rattle.field.proofs.checks.is_word.Tie as tie
 

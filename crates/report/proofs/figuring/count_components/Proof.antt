@@ -4,7 +4,7 @@ use Prim.Native.Nat.{ℕ}
 use borrow.Author.Needs.{needs}
 use denote.Ref.{now}
 use Rattle.mesh.specs.Cells.{mapOf}
-use Rattle.mesh.specs.Marks.{marksOf}
+use Rattle.rules.specs.Marks.{marksOf}
 use Rattle.mesh.specs.Answers.{answerValue}
 use Rattle.mesh.specs.declared.Answer.{Answer}
 use Rattle.touching.specs.Components.{howMany}

@@ -7,9 +7,9 @@ use denote.Ref.{now}
 use lib.ListN.{length, take}
 use Rattle.mesh.specs.Mesh.{nodes}
 use Rattle.mesh.specs.Cells.{mapOf}
-use Rattle.mesh.specs.Marks.{marksOf}
+use Rattle.rules.specs.Marks.{marksOf}
 use Rattle.mesh.proofs.Answers.{map-granted}
-use Rattle.mesh.proofs.Marks.{marks-length}
+use Rattle.rules.proofs.Marks.{marks-length}
 use Rattle.report.specs.Counts.{withBit}
 use Rattle.report.proofs.Counted.{marks-front, useless-counted, cant-reach-counted}
 use Rattle.report.proofs.figuring.figures.Statement.{statement}

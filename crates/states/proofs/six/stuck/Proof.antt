@@ -7,7 +7,7 @@ use lib.Bits.{bitAnd, and-le-r}
 use lib.Dec.{eqb}
 use borrow.Author.Tests.{eq-eqb, ne-eqb}
 use Rattle.mesh.specs.Tools.{bit}
-use Rattle.mesh.specs.Marks.{rule}
+use Rattle.rules.specs.Marks.{rule}
 use Rattle.states.specs.Scan.{Bytes, six, ones, hinders}
 use Rattle.states.proofs.Beside.{stuck-is}
 use borrow.Author.Needs.{needs}

@@ -1,0 +1,6 @@
+pub mod Rule
+pub mod Left
+pub mod Stuck
+pub mod Marks
+pub mod Bytes
+pub mod ByteRule
