@@ -34,7 +34,7 @@ use Rattle.talk.proofs.State.{pair-talks, talks-pair, speaker-lt, speaker-works
 use Rattle.talk.proofs.Same.{works-word}
 use Rattle.talk.proofs.Hear.{added-word}
 use Rattle.talk.proofs.Calls.{state-passed, numbers-passed, hear-passed}
-use Rattle.states.proofs.Scanned.{fits-word, word-heard, quick-is}
+use Rattle.scans.proofs.Scanned.{fits-word, word-heard, quick-is}
 
 -- ---- the checks
 

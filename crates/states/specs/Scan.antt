@@ -1,5 +1,5 @@
--- How the code goes through a state: row by row, six bytes at once, without branches on what a byte holds. `scan-is` and `news-is` of
--- proofs/ show that it finds what 01 says. Assumes nothing.
+-- How the code goes through a state: row by row, six bytes at once, without branches on what a byte holds. `scan-is` and `news-is` of the
+-- crate scans show that it finds what 01 says. Assumes nothing.
 use mathlib.Core.Bool.{Bool, false, cond, not, _&&_, _||_}
 use mathlib.Core.List.{List, [], _∷_}
 use mathlib.Core.Path.{_≡_}

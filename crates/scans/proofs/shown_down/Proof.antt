@@ -1,8 +1,8 @@
--- `states::scan::shown_down` meets its contract: the neighbour is there where the coordinate is not 0. Assumes nothing.
+-- `scans::shown_down` meets its contract: the neighbour is there where the coordinate is not 0. Assumes nothing.
 use borrow.Author.Tests.{lt-ltb, le-ltb}
 use borrow.Author.Needs.{needs}
-use Rattle.states.proofs.scan.shown_down.Statement.{statement}
-use Rattle.states.proofs.scan.shown_down.Tie as tie
+use Rattle.scans.proofs.shown_down.Statement.{statement}
+use Rattle.scans.proofs.shown_down.Tie as tie
 
 sub-result : tie.Need-sub-result
 sub-result c = c .before .pre .below (c .if1 .taken)

@@ -1,16 +1,16 @@
--- `states::scan::node` meets its contract: the test and the count of its node, from six bytes at once. Assumes nothing.
+-- `scans::node` meets its contract: the test and the count of its node, from six bytes at once. Assumes nothing.
 use mathlib.Core.Path.{_∙_, ap, subst}
 use Prim.Native.Nat.{ℕ, _*_}
 use native.Mathlib.Omega.{arith}
 use denote.Ref.{now}
 use Rattle.talk.specs.State.{heard}
 use Rattle.states.specs.Scan.{_isBut255_, nodeTest, nodeNews}
 use Rattle.states.proofs.Beside.{six-lt}
 use Rattle.states.proofs.Shown.{held}
-use Rattle.states.proofs.Tested.{faulty-test, working-test, differs-six, differs-byte, faulty-news, working-news}
+use Rattle.scans.proofs.Tested.{faulty-test, working-test, differs-six, differs-byte, faulty-news, working-news}
 use borrow.Author.Needs.{needs}
-use Rattle.states.proofs.scan.node.Statement.{statement}
-use Rattle.states.proofs.scan.node.Tie as tie
+use Rattle.scans.proofs.node.Statement.{statement}
+use Rattle.scans.proofs.node.Tie as tie
 
 heard-requires : tie.Need-heard-requires
 heard-requires c κs =

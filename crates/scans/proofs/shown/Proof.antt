@@ -1,4 +1,4 @@
--- `states::scan::shown` meets its contract: what is shown on an axis, up and down, is what stands in its two directions. Assumes nothing.
+-- `scans::shown` meets its contract: what is shown on an axis, up and down, is what stands in its two directions. Assumes nothing.
 use mathlib.Core.Path.{_≡_, sym, _∙_}
 use mathlib.Core.Bool.{true, false}
 use native.Mathlib.Omega.{arith}
@@ -7,12 +7,12 @@ use Rattle.mesh.specs.Mesh.{Axis, X, Y, Z, span, on}
 use Rattle.mesh.specs.Steps.{along}
 use Rattle.mesh.proofs.Numbers.{layer-le}
 use Rattle.mesh.proofs.Strides.{stride}
 use Rattle.states.specs.Scan.{Held, Near, shownUp, shownDown, shows}
 use Rattle.states.proofs.Packed.{six-is}
 use Rattle.states.proofs.Shown.{near, shows-up, shows-down, shows-byte}
 use borrow.Author.Needs.{needs}
-use Rattle.states.proofs.scan.shown.Statement.{statement}
-use Rattle.states.proofs.scan.shown.Tie as tie
+use Rattle.scans.proofs.shown.Statement.{statement}
+use Rattle.scans.proofs.shown.Tie as tie
 
 -- what the calls ask of the bytes that they read
 near-on : (s : tie.Start) (a : Axis) → let c = s .args in Near (Held (now (c .state))) (c .k) (on (c .p) a) (span (c .s) a) (stride (c .s) a)

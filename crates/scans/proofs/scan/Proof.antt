@@ -1,4 +1,4 @@
--- `states::scan::scan` meets its contract: the rows so far are right and their words counted, and a row that is not right makes the state unsound.
+-- `scans::scan` meets its contract: the rows so far are right and their words counted, and a row that is not right makes the state unsound.
 -- Assumes nothing.
 use mathlib.Core.Path.{_≡_, refl, sym, _∙_, ap}
 use mathlib.Core.Bool.{true, false}
@@ -13,12 +13,12 @@ use Rattle.mesh.proofs.Tables.{sum-more}
 use Rattle.mesh.proofs.Numbers.{rows-le}
 use Rattle.mesh.proofs.Strides.{sum-rows}
 use Rattle.talk.specs.Sound.{sound}
 use Rattle.states.specs.Scan.{rowTest, rowNews, nodeNews}
 use Rattle.talk.proofs.Decide.{sound-iff}
-use Rattle.states.proofs.Scanned.{scan-is}
-use Rattle.states.proofs.Counted.{news-is}
-use Rattle.states.proofs.scan.scan.Statement.{statement}
-use Rattle.states.proofs.scan.scan.Tie as tie
+use Rattle.scans.proofs.Scanned.{scan-is}
+use Rattle.scans.proofs.Counted.{news-is}
+use Rattle.scans.proofs.scan.Statement.{statement}
+use Rattle.scans.proofs.scan.Tie as tie
 
 abbrev Inv-loop : tie.InvT-loop
 Inv-loop s o state rows news₀ at₀ news at = (at ≤ rows) × (all at (rowTest s o state) ≡ true) × (news ≡ sum at (rowNews s state)) × (news ≤ 96 * at)

@@ -1,9 +1,9 @@
--- `states::scan::shown_up` meets its contract: the neighbour is there where its coordinate is on the axis. Assumes nothing.
+-- `scans::shown_up` meets its contract: the neighbour is there where its coordinate is on the axis. Assumes nothing.
 use native.Mathlib.Omega.{arith}
 use borrow.Author.Tests.{lt-ltb, le-ltb}
 use borrow.Author.Needs.{needs}
-use Rattle.states.proofs.scan.shown_up.Statement.{statement}
-use Rattle.states.proofs.scan.shown_up.Tie as tie
+use Rattle.scans.proofs.shown_up.Statement.{statement}
+use Rattle.scans.proofs.shown_up.Tie as tie
 
 add-result : tie.Need-add-result
 add-result c = omega (arith, c .before .pre .1 .above (c .if1 .taken))

@@ -1,4 +1,4 @@
--- `states::scan::all_right` meets its contract: the scan gives a number where the state is sound. Assumes nothing.
+-- `scans::all_right` meets its contract: the scan gives a number where the state is sound. Assumes nothing.
 use mathlib.Core.Path.{_≡_, refl, sym, _∙_}
 use mathlib.Core.Bool.{Bool, true, false}
 use Prim.Native.Nat.{ℕ}
@@ -7,8 +7,8 @@ use Rattle.mesh.specs.Answers.{numbered, unless}
 use Rattle.mesh.specs.declared.Refusal.{Refusal}
 use Rattle.mesh.specs.declared.Numbered.the-variants.{Number, NotNumbered}
 use borrow.Author.Needs.{needs}
-use Rattle.states.proofs.scan.all_right.Statement.{statement}
-use Rattle.states.proofs.scan.all_right.Tie as tie
+use Rattle.scans.proofs.all_right.Statement.{statement}
+use Rattle.scans.proofs.all_right.Tie as tie
 
 given : (t : Bool) (r : Refusal) (n k : ℕ) → Number k ≡ numbered (unless t r) n → true ≡ t
 given true r n k e = refl

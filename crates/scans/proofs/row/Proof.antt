@@ -1,4 +1,4 @@
--- `states::scan::row` meets its contract: nothing is wrong so far where the nodes so far pass their tests, and their words are counted but for a
+-- `scans::row` meets its contract: nothing is wrong so far where the nodes so far pass their tests, and their words are counted but for a
 -- multiple of 255, of which there are too few. Assumes nothing.
 use mathlib.Core.Path.{_≡_, refl, sym, _∙_, ap, ap₂, subst}
 use mathlib.Core.Bool.{Bool, _&&_}
@@ -10,12 +10,12 @@ use Rattle.mesh.specs.Tools.{all, sum}
 use Rattle.mesh.proofs.Tests.{all-more}
 use Rattle.mesh.proofs.Tables.{sum-more}
 use Rattle.mesh.proofs.Strides.{row-number, row-in}
 use Rattle.states.specs.Scan.{ones, _isBut255_, nodeTest, nodeNews}
 use Rattle.states.proofs.Quick.{or-none}
 use Rattle.states.proofs.Packed.{but-add, but-few}
-use Rattle.states.proofs.Tested.{news-le, sum-six}
-use Rattle.states.proofs.scan.row.Statement.{statement}
-use Rattle.states.proofs.scan.row.Tie as tie
+use Rattle.scans.proofs.Tested.{news-le, sum-six}
+use Rattle.scans.proofs.row.Statement.{statement}
+use Rattle.scans.proofs.row.Tie as tie
 
 abbrev Inv-loop : tie.InvT-loop
 Inv-loop s o state row y z wrong₀ news₀ x₀ x-end wrong news x =

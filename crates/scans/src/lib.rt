@@ -1,15 +1,15 @@
 // The one scan of a state: is it sound, and how many words are outstanding? The nodes in their order, row by row, each with six bytes at once, so
 // that what a byte holds leads to no branch.
-use crate::bytes::faulty_hears;
-use crate::six::ONES;
-use crate::six::heard;
-use crate::six::ruled;
-use crate::six::six;
-use crate::six::some;
 use mesh::Numbered;
 use mesh::Place;
 use mesh::Refusal;
 use mesh::Sizes;
+use states::bytes::faulty_hears;
+use states::six::ONES;
+use states::six::heard;
+use states::six::ruled;
+use states::six::six;
+use states::six::some;
 ghost use mathlib.Core.Path.{_≡_};
 ghost use Prim.Native.Nat.{_+_, _*_, _<_, _≤_};
 ghost use lib.Dec.{eqb};
