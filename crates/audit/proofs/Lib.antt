@@ -1,4 +1,1 @@
-pub mod Judged
 pub mod Passing
-pub mod Reasons
-pub mod Sample

@@ -14,7 +14,8 @@ use Rattle.logfile.specs.declared.Entry.{Entry}
 use Rattle.logfile.specs.declared.Entry.the-variants.{Nothing, Transfer, NoPair}
 use Rattle.logfile.specs.declared.Stop.the-variants.{Feed}
 use Rattle.logfile.proofs.Lines.{line-next, no-line}
-use Rattle.audit.specs.Audit.{noPath, plus, judge, tally, lineTotals, totalsFrom, Few}
+use Rattle.audit.specs.Audit.{plus, judge, tally, lineTotals, totalsFrom, Few}
+use Rattle.transfers.specs.Transfer.{noPath}
 use Rattle.audit.specs.declared.Totals.{Totals}
 
 pub more : {t : Totals} {n k : ℕ} → Few t n → n ≤ k → Few t k

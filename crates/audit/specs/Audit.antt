@@ -1,45 +1,17 @@
 -- The audit of a log: the text for each of its lines, and the totals. Assumes nothing.
-use mathlib.Core.Bool.{Bool, cond}
-use mathlib.Core.List.{List, [], _∷_, _++_}
+use mathlib.Core.Bool.{cond}
+use mathlib.Core.List.{List, [], _∷_}
 use Prim.Native.Nat.{ℕ, _+_, _≤_}
-use lib.Dec.{eqb}
-use lib.ListN.{getD}
-use Rattle.mesh.specs.Mesh.{placeOf}
-use Rattle.mesh.specs.Cells.{mapOf}
-use Rattle.mesh.specs.Answers.{refusalNo}
 use Rattle.mesh.specs.declared.Sizes.{Sizes}
-use Rattle.mesh.specs.declared.Refusal.{Refusal}
-use Rattle.paths.specs.Offered.{route}
 use Rattle.paths.specs.Entries.{verdictAnswer}
 use Rattle.paths.specs.declared.Verdict.{Verdict}
 use Rattle.paths.specs.declared.Verdict.the-variants.{Granted, NotGranted}
-use Rattle.text.specs.Text.{ascii, told, pieces}
+use Rattle.text.specs.Text.{ascii, told}
 use Rattle.logfile.specs.Log.{linesOf, entryOf}
-use Rattle.audit.specs.Words.{refusalLine}
-use Rattle.picture.specs.Picture.{picture}
+use Rattle.transfers.specs.Transfer.{noPath, transferText}
 use Rattle.logfile.specs.declared.Entry.{Entry}
 use Rattle.logfile.specs.declared.Entry.the-variants.{Nothing, Transfer, NoPair}
 use Rattle.audit.specs.declared.Totals.{Totals}
-
--- "granted with hops and the route"
-unfoldable pub grantedText : ℕ → List ℕ → List ℕ
-grantedText h nodes =
-    told (ascii ": granted, hops %, route") (h ∷ []) ++ pieces (λ i. told (ascii " %") (getD nodes i 0 ∷ [])) (h + 1) ++ ascii "\n"
-
--- "or the refusal with its reason in words; for `no path` then a picture"
-abbrev pub noPath : Refusal → Bool
-noPath r = eqb (refusalNo r) 10
-
-unfoldable pub refusedText : Sizes → List ℕ → ℕ → ℕ → Refusal → List ℕ
-refusedText S cells s e r = refusalLine (ascii ": refused ") r ++ cond (noPath r) (picture (mapOf S cells) s e) []
-
-abbrev pub verdictText : Sizes → List ℕ → ℕ → ℕ → Verdict → List ℕ
-verdictText S cells s e (Granted h o) = grantedText h (route (mapOf S cells) (placeOf S e) (placeOf S s))
-verdictText S cells s e (NotGranted r) = refusedText S cells s e r
-
--- a transfer, on line k
-abbrev pub transferText : Sizes → List ℕ → ℕ → ℕ → ℕ → List ℕ
-transferText S cells k s e = told (ascii "line %: % to %") (k ∷ s ∷ e ∷ []) ++ verdictText S cells s e (verdictAnswer S cells s e)
 
 -- "A line that is no pair of numbers is reported with its line number"
 abbrev pub noPairText : ℕ → List ℕ

@@ -1,4 +1,3 @@
-pub mod Words
 pub mod Audit
 pub mod Heading
 pub mod Usage

@@ -1,7 +1,6 @@
 // The audit of a log, line by line.
 use crate::Audited;
 use crate::Totals;
-use crate::lines::transfer;
 use logfile::Entry;
 use logfile::reading::entry;
 use logfile::reading::line_from;
@@ -9,6 +8,7 @@ use mesh::Sizes;
 use routes::entries::verdict;
 use text::running::print_front;
 use text::tell;
+use transfers::transfer;
 ghost use mathlib.Core.Path.{_≡_};
 ghost use Prim.Native.Nat.{_≤_};
 ghost use lib.ListN.{length};

@@ -3,10 +3,8 @@
 pub mod auditing;
 pub mod counting;
 pub mod heading;
-pub mod lines;
 pub mod running;
 pub mod usage;
-pub mod words;
 
 // How many lines were read; of these, transfers granted, refused for want of a path, and refused otherwise; and lines that are no pair.
 pub struct Totals {

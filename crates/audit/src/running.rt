@@ -2,12 +2,12 @@
 use crate::auditing::audit_log;
 use crate::counting::tell_totals;
 use crate::heading::top;
-use crate::words::say_refusal;
 use format::MapRead;
 use mapfile::reader::read_map;
 use mesh::Sizes;
 use text::running::blank_file;
 use text::running::print_front;
+use transfers::say_refusal;
 ghost use mathlib.Core.Path.{_≡_};
 ghost use lib.ListN.{length};
 

@@ -1,11 +1,4 @@
-pub mod Around
-pub mod Parts
-pub mod Layouts
 pub mod Spots
-pub mod Boxes
-pub mod Labels
-pub mod Few
-pub mod Turns
 pub mod Nodes
 pub mod Outcomes
 pub mod Held

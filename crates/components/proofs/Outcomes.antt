@@ -27,9 +27,9 @@ use Rattle.rules.proofs.Marks.{marks-length}
 use Rattle.marks.specs.Entry.{marksAnswer}
 use Rattle.touching.specs.Components.{tableOf, recordsOf, howMany}
 use Rattle.touching.specs.Entry.{componentsCheck, componentsAnswer, componentsTable, componentsRow, tableWritten, rowWritten}
-use Rattle.components.specs.Grid.{gridSize, spot, gridAt}
-use Rattle.components.specs.Layout.{Copied}
-use Rattle.components.specs.Label.{Untouched, Within, Labelled}
+use Rattle.grids.specs.Grid.{gridSize, spot, gridAt}
+use Rattle.grids.specs.Layout.{Copied}
+use Rattle.floods.specs.Label.{Untouched, Within, Labelled}
 use Rattle.components.specs.Outcome.{Gridded, roomCheck, Settled, storedOf, Computed}
 use Rattle.touching.specs.declared.Component.{Component}
 use Rattle.components.specs.declared.Outcome.{Outcome}

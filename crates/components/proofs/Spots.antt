@@ -16,11 +16,11 @@ use Rattle.mesh.proofs.Numbers.{room, number-of, number-lt, place-in, place-of}
 use Rattle.mesh.specs.declared.Sizes.{Sizes}
 use Rattle.mesh.specs.declared.Place.{Place}
 use Rattle.touching.specs.Touch.{unsafe, touching}
-use Rattle.components.specs.Grid.{gridSize, unseen, spot, placeAt, shade, gridAt, Spot, Beside}
-use Rattle.components.specs.Label.{Untouched, Within}
+use Rattle.grids.specs.Grid.{gridSize, unseen, spot, placeAt, shade, gridAt, Spot, Beside}
+use Rattle.floods.specs.Label.{Untouched, Within}
 use Rattle.touching.proofs.Joined.{unsafe-lt}
-use Rattle.components.proofs.Around.{spot-at, at-spot, touch-beside, beside-touch}
-use Rattle.components.proofs.Layouts.{grid-none, grid-at}
+use Rattle.grids.proofs.Around.{spot-at, at-spot, touch-beside, beside-touch}
+use Rattle.grids.proofs.Layouts.{grid-none, grid-at}
 
 -- the spot of node k
 abbrev pub at : Sizes → ℕ → ℕ

@@ -1,5 +1,1 @@
-pub mod Grid
-pub mod Layout
-pub mod Flood
-pub mod Label
 pub mod Outcome

@@ -15,8 +15,8 @@ use Rattle.mesh.specs.declared.Numbered.{Numbered}
 use Rattle.mesh.specs.declared.Numbered.the-variants.{Number, NotNumbered}
 use Rattle.touching.specs.Components.{recordsOf, howMany}
 use Rattle.touching.specs.Entry.{componentsCheck, componentsAnswer, tableWritten}
-use Rattle.components.specs.Grid.{gridAt}
-use Rattle.components.specs.Layout.{Copied}
+use Rattle.grids.specs.Grid.{gridAt}
+use Rattle.grids.specs.Layout.{Copied}
 use Rattle.components.specs.declared.Outcome.{Outcome}
 
 -- a granted map's grid; on a refusal it is empty

@@ -1,8 +1,8 @@
 // The call for the components of a map. It takes every input.
 use crate::Outcome;
-use crate::grid::copy_out;
-use crate::grid::lay;
-use crate::labelling::label;
+use floods::labelling::label;
+use grids::copy_out;
+use grids::lay;
 use marks::entry::marks;
 use mesh::Answer;
 use mesh::Numbered;
@@ -15,7 +15,7 @@ ghost use Rattle.mesh.specs.Mesh.{InRange};
 ghost use Rattle.mesh.specs.declared.Answer.the-variants.{Done};
 ghost use Rattle.mesh.specs.Answers.{answerValue};
 ghost use Rattle.marks.specs.Entry.{marksAnswer};
-ghost use Rattle.components.specs.Grid.{gridSize};
+ghost use Rattle.grids.specs.Grid.{gridSize};
 ghost use Rattle.components.specs.Outcome.{Gridded, Settled, storedOf, Computed};
 
 fn blank_marks() -> [u8; 4096]

@@ -6,9 +6,9 @@ use lib.ListN.{length}
 use Rattle.mesh.specs.declared.Sizes.{Sizes}
 use Rattle.components.specs.Outcome.{Computed}
 use Rattle.components.specs.declared.Outcome.{Outcome}
-use Rattle.dukthari.specs.Answers.{NumberedFits, countedFields}
+use Rattle.answers.specs.Fields.{NumberedFits, countedFields}
 use Rattle.dukthari.specs.Grouping.{Grouping}
-use Rattle.dukthari.specs.declared.CountedAnswer.{CountedAnswer}
+use Rattle.answers.specs.declared.CountedAnswer.{CountedAnswer}
 use Rattle.dukthari.proofs.Small.{components-fits}
 
 module _ (S : Sizes) (cells : List ℕ) (o room : ℕ) (old new : List ℕ) (r : Outcome) (C : Computed S cells o room old new r) where

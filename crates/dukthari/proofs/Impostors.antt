@@ -8,10 +8,7 @@ use Rattle.mesh.specs.Steps.{next}
 use Rattle.mesh.specs.Answers.{numberAnswer, placeAnswer, stepAnswer}
 use Rattle.mesh.specs.declared.Sizes.{Sizes}
 use Rattle.mesh.specs.declared.Place.{Place}
-use Rattle.dukthari.specs.Answers.{nodeFields, placeFields, stepFields}
-use Rattle.dukthari.specs.declared.NodeAnswer.{NodeAnswer}
-use Rattle.dukthari.specs.declared.PlaceAnswer.{PlaceAnswer}
-use Rattle.dukthari.specs.declared.StepAnswer.{StepAnswer}
+use Rattle.answers.specs.Fields.{nodeFields, placeFields, stepFields}
 
 abbrev pub unlike : Sizes
 unlike = sizes 3 4 5

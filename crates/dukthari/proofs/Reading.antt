@@ -20,8 +20,8 @@ use borrow.Fn.Learn.{no-pin, no-own}
 use borrow.Fn.Read.{Read, all-models, reads, no-know}
 use borrow.Fn.Written as written
 use Rattle.touching.proofs.Component as C
-use Rattle.dukthari.proofs.CountedAnswer as K
-use Rattle.dukthari.proofs.CountedAnswer.Laws as K′
+use Rattle.answers.proofs.CountedAnswer as K
+use Rattle.answers.proofs.CountedAnswer.Laws as K′
 use Rattle.dukthari.proofs.dk_components as f
 
 -- the kinds of its parameters and of its result

@@ -1,8 +1,8 @@
 -- Every value that a call returns fits 32 bits: a bad cell is a node of the map, hops and lengths are small. Assumes nothing.
-use mathlib.Core.Path.{_≡_, refl, sym, subst, _∙_}
+use mathlib.Core.Path.{_≡_, refl, subst}
 use mathlib.Core.Bool.{Bool, true, false, cond, _&&_}
 use mathlib.Core.List.{List}
-use Prim.Native.Nat.{ℕ, zero, suc, _+_, _*_, _≤_, _<_}
+use Prim.Native.Nat.{ℕ, zero, suc, _*_, _≤_}
 use native.Mathlib.Nat.{mul-suc}
 use native.Mathlib.Omega.{arith}
 use borrow.Author.Tests.{ltb-true, eqb-true}
@@ -12,8 +12,9 @@ use Rattle.mesh.specs.Tools.{between, bit, sum, count}
 use Rattle.mesh.specs.Mesh.{InRange, Inside, inRange, nodes, placeOf}
 use Rattle.mesh.specs.Cells.{mapOf, cellAt, mayEnd, badCell, firstBad, stateLength}
 use Rattle.rules.specs.Marks.{isWord}
-use Rattle.mesh.specs.Answers.{refusalBad, answerBad, _andThen_, unless, numbered, answerValue, checkSizes, checkCells, checkMap, checkOrientation, checkNode, checkDirection, checkRoom}
+use Rattle.mesh.specs.Answers.{refusalBad, answerBad, _andThen_, unless, numbered, answerValue, checkSizes, checkCells, checkMap, checkOrientation, checkNode, checkDirection, checkRoom, numberAnswer, placeAnswer, stepAnswer}
 use Rattle.mesh.proofs.Answers.{split, ok-of, sizes-granted, node-granted, map-granted}
+use Rattle.mesh.proofs.Granted.{number-fits, place-fits, step-fits}
 use Rattle.mesh.proofs.Bits.{bit-le}
 use Rattle.mesh.proofs.Numbers.{nodes-le, place-in}
 use Rattle.mesh.specs.declared.Sizes.{Sizes}
@@ -37,7 +38,7 @@ use Rattle.talk.specs.State.{mapIn, pair, says}
 use Rattle.talk.specs.Sound.{sound, within}
 use Rattle.talk.specs.Hear.{news, outstandingOn, outstanding}
 use Rattle.talk.specs.Entries.{checkState, freshAnswer, soundAnswer, outstandingAnswer, checkWord, hearAnswer}
-use Rattle.dukthari.specs.Answers.{PlaceFits, NumberedFits, VerdictFits, MapFits}
+use Rattle.answers.specs.Fields.{NodeFits, PlaceFits, PlacedFits, SteppedFits, NumberedFits, VerdictFits, MapFits}
 
 -- a check passes on the bad cell of the first refusal
 pub bad-then : (n : ℕ) (a b : Answer) → answerBad a ≤ n → (a ≡ Done → answerBad b ≤ n) → answerBad (a andThen b) ≤ n
@@ -71,7 +72,7 @@ bad-map S cells =
     bad-cells S cells 65536 (omega (arith, nodes-le S (sizes-granted S s))))
 
 -- a place in the mesh is small
-pub inside-fits : (S : Sizes) (p : Place) → InRange S × Inside S p → PlaceFits p
+inside-fits : (S : Sizes) (p : Place) → InRange S × Inside S p → PlaceFits p
 inside-fits S p (r, i) = (omega arith, omega arith, omega arith)
 
 -- a number that is granted is small, a refusal's bad cell too
@@ -85,7 +86,18 @@ unfolding sum
 sum-le zero b f h = omega arith
 sum-le (suc n) b f h = omega (arith, mul-suc b n, h n, sum-le n b f h)
 
--- ---- the calls
+-- ---- the calls on places
+
+pub number-small : (S : Sizes) (p : Place) → NodeFits (numberAnswer S p)
+number-small S p n e = let (r, l) = number-fits S p n e in omega (arith, nodes-le S r)
+
+pub place-small : (S : Sizes) (k : ℕ) → PlacedFits (placeAnswer S k)
+place-small S k p e = inside-fits S p (place-fits S k p e)
+
+pub step-small : (S : Sizes) (p : Place) (j : ℕ) → SteppedFits (stepAnswer S p j)
+step-small S p j q e = inside-fits S q (step-fits S p j q e)
+
+-- ---- the calls on maps
 
 bad-trailer : (file : List ℕ) → answerBad (checkTrailer file) ≤ 65536
 unfolding checkTrailer checkFrame

@@ -28,7 +28,7 @@ use Rattle.talk.specs.Entries.{freshAnswer, freshOut, hearAnswer, hearOut}
 use Rattle.format.specs.Format.{sizesIn, distance}
 use Rattle.format.specs.Entry.{mapRead, readCheck, readAnswer, readWritten, readOut}
 use Rattle.format.specs.Entry.{writeCheck, writeAnswer, writeWritten, writeOut}
-use Rattle.dukthari.specs.Answers.{countedFields, mapFields}
+use Rattle.answers.specs.Fields.{countedFields, mapFields}
 use Rattle.dukthari.proofs.dk_number.Kinds as number-kinds
 use Rattle.dukthari.proofs.dk_number.Reads as number-reads
 use Rattle.dukthari.proofs.dk_place.Kinds as place-kinds

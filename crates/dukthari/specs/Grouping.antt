@@ -6,7 +6,7 @@ use lib.ListN.{length}
 use Rattle.mesh.specs.declared.Sizes.{Sizes}
 use Rattle.touching.specs.Entry.{componentsAnswer}
 use Rattle.components.specs.Outcome.{Computed}
-use Rattle.dukthari.specs.Answers.{countedFields}
+use Rattle.answers.specs.Fields.{countedFields}
 use Rattle.dukthari.specs.declared.Grouped.{Grouped}
 
 pub record Grouping (S : Sizes) (cells : List ℕ) (o room : ℕ) (old new : List ℕ) (r : Grouped) : Type 0 where

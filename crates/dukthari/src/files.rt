@@ -1,14 +1,14 @@
 // The calls on map files.
-use crate::CountedAnswer;
-use crate::MapAnswer;
-use crate::fields::counted;
-use crate::fields::read;
-use crate::fields::sizes_of;
+use answers::CountedAnswer;
+use answers::MapAnswer;
+use answers::counted_fields;
+use answers::map_fields;
+use answers::sizes_of;
 ghost use mathlib.Core.Path.{_≡_};
 ghost use lib.ListN.{length};
 ghost use Rattle.mesh.specs.Mesh.{sizes};
 ghost use Rattle.format.specs.Entry.{readAnswer, readOut, writeAnswer, writeOut};
-ghost use Rattle.dukthari.specs.Answers.{countedFields, mapFields};
+ghost use Rattle.answers.specs.Fields.{countedFields, mapFields};
 
 // Reads a map file. Refusals: 11, 1, 11, 3, 4.
 #[no_mangle]
@@ -17,7 +17,7 @@ pub extern "C" fn dk_read_map(file: &[u8], cells: &mut [u8]) -> MapAnswer
     ensures { λ _. ⌜ now (cells .exit) ≡ readOut (now (file .entry)) (now (cells .entry)) ⌝ }
 {
     let a = mapfile::reader::read_map(file, cells);
-    read(a)
+    map_fields(a)
 }
 
 // Writes a map file; its length. Refusals: 1, 2, 4, 3.
@@ -33,5 +33,5 @@ pub extern "C" fn dk_write_map(
     ensures { λ _. ⌜ now (out .exit) ≡ writeOut (sizes w h d) (now (cells .entry)) (now (out .entry)) ⌝ }
 {
     let a = mapfile::writer::write_map(sizes_of(w, h, d), cells, out);
-    counted(a)
+    counted_fields(a)
 }

@@ -1,7 +1,7 @@
 // The components of a map, but for their storing: the answer's fields, the table, and the records by value.
 use crate::Grouped;
-use crate::fields::counted;
-use crate::fields::sizes_of;
+use answers::counted_fields;
+use answers::sizes_of;
 ghost use Rattle.mesh.specs.Mesh.{sizes};
 ghost use Rattle.dukthari.specs.Grouping.{Grouping};
 
@@ -24,7 +24,7 @@ pub fn compute(
         room,
     );
     let a = found.answer;
-    let answer = counted(a);
+    let answer = counted_fields(a);
     let records = found.records;
     Grouped {
         answer,

@@ -1,16 +1,20 @@
 // The C boundary: every public entry, thin, with no `requires`. include/dukthari.h declares it.
-use crate::fields::counted;
-use crate::fields::done;
-use crate::fields::judged;
-use crate::fields::place_at;
-use crate::fields::placed;
-use crate::fields::sizes_of;
 use crate::grouping::compute;
+use answers::CountedAnswer;
+use answers::DoneAnswer;
+use answers::NodeAnswer;
+use answers::PlaceAnswer;
+use answers::StepAnswer;
+use answers::VerdictAnswer;
+use answers::counted_fields;
+use answers::done_fields;
+use answers::node_fields;
+use answers::place_at;
+use answers::place_fields;
+use answers::sizes_of;
+use answers::step_fields;
+use answers::verdict_fields;
 use components::storing::store;
-use mesh::Next;
-use mesh::Numbered;
-use mesh::Placed;
-use mesh::Stepped;
 use touching::Component;
 ghost use mathlib.Core.Path.{_≡_};
 ghost use lib.ListN.{length};
@@ -19,66 +23,11 @@ ghost use Rattle.mesh.specs.Answers.{numberAnswer, placeAnswer, stepAnswer};
 ghost use Rattle.marks.specs.Entry.{marksAnswer, marksOut};
 ghost use Rattle.touching.specs.Entry.{componentsAnswer, componentsTable, componentsRow};
 ghost use Rattle.paths.specs.Entries.{verdictAnswer, routeAnswer, routeOut, reachedAnswer, reachedOut};
-ghost use Rattle.dukthari.specs.Answers.{nodeFields, placeFields, stepFields, doneFields, countedFields, verdictFields};
+ghost use Rattle.answers.specs.Fields.{nodeFields, placeFields, stepFields, doneFields, countedFields, verdictFields};
 
-mod fields;
 pub mod files;
 mod grouping;
 pub mod states;
-
-#[repr(C)]
-pub struct NodeAnswer {
-    pub refusal: u32,
-    pub node: u32,
-}
-
-#[repr(C)]
-pub struct PlaceAnswer {
-    pub refusal: u32,
-    pub x: u32,
-    pub y: u32,
-    pub z: u32,
-}
-
-// there: 1, or 0 where the mesh ends.
-#[repr(C)]
-pub struct StepAnswer {
-    pub refusal: u32,
-    pub there: u32,
-    pub x: u32,
-    pub y: u32,
-    pub z: u32,
-}
-
-#[repr(C)]
-pub struct DoneAnswer {
-    pub refusal: u32,
-    pub bad: u32,
-}
-
-#[repr(C)]
-pub struct CountedAnswer {
-    pub refusal: u32,
-    pub bad: u32,
-    pub count: u32,
-}
-
-#[repr(C)]
-pub struct VerdictAnswer {
-    pub refusal: u32,
-    pub bad: u32,
-    pub hops: u32,
-    pub offered: u32,
-}
-
-#[repr(C)]
-pub struct MapAnswer {
-    pub refusal: u32,
-    pub bad: u32,
-    pub w: u32,
-    pub h: u32,
-    pub d: u32,
-}
 
 // The fields of the answer for components, and the records that are still to be stored: none on a refusal.
 pub struct Grouped {
@@ -93,16 +42,7 @@ pub extern "C" fn dk_number(w: u32, h: u32, d: u32, x: u32, y: u32, z: u32) -> N
     ensures { λ r. ⌜ r ≡ nodeFields (numberAnswer (sizes w h d) (place x y z)) ⌝ }
 {
     let a = mesh::entries::number_of(sizes_of(w, h, d), place_at(x, y, z));
-    match a {
-        Numbered::Number(n) => {
-            let node = n as u32;
-            NodeAnswer { refusal: 0, node }
-        }
-        Numbered::NotNumbered(r) => NodeAnswer {
-            refusal: r.number(),
-            node: 0,
-        },
-    }
+    node_fields(a)
 }
 
 // The place of a node. Refusals: 1, 5.
@@ -111,15 +51,7 @@ pub extern "C" fn dk_place(w: u32, h: u32, d: u32, node: u32) -> PlaceAnswer
     ensures { λ r. ⌜ r ≡ placeFields (placeAnswer (sizes w h d) node) ⌝ }
 {
     let a = mesh::entries::place_of(sizes_of(w, h, d), node as usize);
-    match a {
-        Placed::Found(p) => placed(p),
-        Placed::NotPlaced(r) => PlaceAnswer {
-            refusal: r.number(),
-            x: 0,
-            y: 0,
-            z: 0,
-        },
-    }
+    place_fields(a)
 }
 
 // A step from a place. Refusals: 1, 5.
@@ -136,36 +68,7 @@ pub extern "C" fn dk_step(
     ensures { λ r. ⌜ r ≡ stepFields (stepAnswer (sizes w h d) (place x y z) direction) ⌝ }
 {
     let a = mesh::entries::step_from(sizes_of(w, h, d), place_at(x, y, z), direction as usize);
-    match a {
-        Stepped::Led(n) => match n {
-            Next::At(q) => {
-                let p = placed(q);
-                return StepAnswer {
-                    refusal: 0,
-                    there: 1,
-                    x: p.x,
-                    y: p.y,
-                    z: p.z,
-                };
-            }
-            Next::Edge => {
-                return StepAnswer {
-                    refusal: 0,
-                    there: 0,
-                    x: 0,
-                    y: 0,
-                    z: 0,
-                };
-            }
-        },
-        Stepped::NotStepped(r) => StepAnswer {
-            refusal: r.number(),
-            there: 0,
-            x: 0,
-            y: 0,
-            z: 0,
-        },
-    }
+    step_fields(a)
 }
 
 // The mark bytes of a map in an orientation. Refusals: 1, 2, 4, 5, 3.
@@ -182,7 +85,7 @@ pub extern "C" fn dk_marks(
     ensures { λ _. ⌜ now (out .exit) ≡ marksOut (sizes w h d) (now (cells .entry)) orientation (now (out .entry)) ⌝ }
 {
     let a = marks::entry::marks(sizes_of(w, h, d), cells, orientation as usize, out);
-    done(a)
+    done_fields(a)
 }
 
 // The components of a map: the table of numbers, and the row of records. Refusals: 1, 2, 4, 5, 3.
@@ -218,7 +121,7 @@ pub extern "C" fn dk_verdict(
     ensures { λ r. ⌜ r ≡ verdictFields (verdictAnswer (sizes w h d) (now (cells .entry)) start end) ⌝ }
 {
     let a = routes::entries::verdict(sizes_of(w, h, d), cells, start as usize, end as usize);
-    judged(a)
+    verdict_fields(a)
 }
 
 // The route: its nodes to the front of out, and how many. Refusals: 1, 2, 4, 5, 9, 10, 3.
@@ -236,7 +139,7 @@ pub extern "C" fn dk_route(
     ensures { λ _. ⌜ now (out .exit) ≡ routeOut (sizes w h d) (now (cells .entry)) start end (now (out .entry)) ⌝ }
 {
     let a = routes::entries::route(sizes_of(w, h, d), cells, start as usize, end as usize, out);
-    counted(a)
+    counted_fields(a)
 }
 
 // What is reached: one byte for each node to the front of out, 1 where preferred steps towards the end lead from the start to it, and how
@@ -255,5 +158,5 @@ pub extern "C" fn dk_reached(
     ensures { λ _. ⌜ now (out .exit) ≡ reachedOut (sizes w h d) (now (cells .entry)) start end (now (out .entry)) ⌝ }
 {
     let a = routes::entries::reached(sizes_of(w, h, d), cells, start as usize, end as usize, out);
-    counted(a)
+    counted_fields(a)
 }

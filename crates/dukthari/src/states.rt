@@ -1,14 +1,14 @@
 // The calls on the state of the talking nodes.
-use crate::CountedAnswer;
-use crate::DoneAnswer;
-use crate::fields::counted;
-use crate::fields::done;
-use crate::fields::sizes_of;
+use answers::CountedAnswer;
+use answers::DoneAnswer;
+use answers::counted_fields;
+use answers::done_fields;
+use answers::sizes_of;
 ghost use mathlib.Core.Path.{_≡_};
 ghost use lib.ListN.{length};
 ghost use Rattle.mesh.specs.Mesh.{sizes};
 ghost use Rattle.talk.specs.Entries.{freshAnswer, freshOut, soundAnswer, outstandingAnswer, hearAnswer, hearOut};
-ghost use Rattle.dukthari.specs.Answers.{doneFields, countedFields};
+ghost use Rattle.answers.specs.Fields.{doneFields, countedFields};
 
 // A fresh state of a map. Refusals: 1, 2, 4, 5.
 #[no_mangle]
@@ -24,7 +24,7 @@ pub extern "C" fn dk_fresh(
     ensures { λ _. ⌜ now (state .exit) ≡ freshOut (sizes w h d) (now (cells .entry)) orientation (now (state .entry)) ⌝ }
 {
     let a = field::entry::fresh(sizes_of(w, h, d), cells, orientation as usize, state);
-    done(a)
+    done_fields(a)
 }
 
 // Is the state sound? Refusals: 1, 2, 5, 6.
@@ -33,7 +33,7 @@ pub extern "C" fn dk_sound(w: u32, h: u32, d: u32, orientation: u32, state: &[u8
     ensures { λ r. ⌜ r ≡ doneFields (soundAnswer (sizes w h d) orientation (now (state .entry))) ⌝ }
 {
     let a = field::entry::sound(sizes_of(w, h, d), orientation as usize, state);
-    done(a)
+    done_fields(a)
 }
 
 // How many words are outstanding. Refusals: 1, 2, 5, 6.
@@ -48,7 +48,7 @@ pub extern "C" fn dk_outstanding(
     ensures { λ r. ⌜ r ≡ countedFields (outstandingAnswer (sizes w h d) orientation (now (state .entry))) ⌝ }
 {
     let a = field::entry::outstanding(sizes_of(w, h, d), orientation as usize, state);
-    counted(a)
+    counted_fields(a)
 }
 
 // The listener hears a word from a direction. Refusals: 1, 2, 5, 6, 7, 8.
@@ -74,5 +74,5 @@ pub extern "C" fn dk_hear(
         word as usize,
         state,
     );
-    done(a)
+    done_fields(a)
 }

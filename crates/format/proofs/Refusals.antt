@@ -18,7 +18,7 @@ use Rattle.mesh.specs.declared.Answer.the-variants.{Done, Refused}
 use Rattle.mesh.specs.declared.Numbered.the-variants.{Number, NotNumbered}
 use Rattle.mesh.proofs.Answers.{sizes-is}
 use Rattle.mesh.proofs.Tests.{T-and, T-eq, T-le, holds-true}
-use Rattle.format.specs.Format.{fileLimit, distance, trailer, trailerAt, hasMark, sizesIn, distanceIn, cellsIn}
+use Rattle.format.specs.Format.{fileLimit, distance, trailerAt, hasMark, sizesIn, distanceIn, cellsIn}
 use Rattle.format.specs.Entry.{checkFrame, checkTrailer, readCheck, readAnswer, readWritten, readOut}
 use Rattle.format.specs.Entry.{writeCheck, writeAnswer}
 use Rattle.format.specs.declared.MapRead.the-variants.{Read, NotRead}

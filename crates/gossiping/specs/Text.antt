@@ -10,7 +10,7 @@ use Rattle.format.specs.Entry.{readAnswer}
 use Rattle.format.specs.declared.MapRead.{MapRead}
 use Rattle.format.specs.declared.MapRead.the-variants.{Read, NotRead}
 use Rattle.text.specs.Text.{ascii, told}
-use Rattle.report.specs.Counts.{faultyCount}
+use Rattle.counts.specs.Counts.{faultyCount}
 use Rattle.report.specs.Report.{firstLine, orientations, refusalLine, largest}
 use Rattle.talk.specs.Promise.{workers, enoughRounds}
 use Rattle.rounds.specs.Rounds.{lossyRounds}

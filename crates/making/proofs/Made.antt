@@ -105,7 +105,7 @@ stored-bytes s t u v k o a b c d e f g l x y z = record {
     tells (suc (suc (suc (suc (suc (suc j)))))) h = absurd (omega arith)
 
 -- one node more is done
-pub node-done : (m : Map) (o k : ℕ) (s v : List ℕ) (b : ℕ) (h : ℕ → ℕ) → Fresh m o k s → length v ≡ length s → Put s v k b h
+node-done : (m : Map) (o k : ℕ) (s v : List ℕ) (b : ℕ) (h : ℕ → ℕ) → Fresh m o k s → length v ≡ length s → Put s v k b h
     → b ≡ freshOwn m o k → ((j : ℕ) → j < 6 → h j ≡ freshHeard m k j) → Fresh m o (k + 1) v
 node-done m o k s v b h F g P e f = record {
   long = g ∙ F .long;

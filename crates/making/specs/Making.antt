@@ -28,6 +28,7 @@ isFirst b = eqb b 8 || eqb b 1 || eqb b 0
 abbrev pub First : (ℕ → ℕ) → Type 0
 First h = (j : ℕ) → T (isFirst (h j))
 
+-- the own byte that the mark rule gives where only 1 blocks
 unfoldable pub firstRule : Sizes → ℕ → (ℕ → ℕ) → ℕ
 firstRule S o h = 2 * bit (rule S o λ j. eqb (h j) 1) + 4 * bit (rule S (reversed o) λ j. eqb (h j) 1)
 

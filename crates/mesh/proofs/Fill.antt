@@ -1,7 +1,6 @@
 -- A loop that stores v i at f i, for i from 0: one store more, and what was right stays right; and what is written at the front of a list.
 -- Assumes nothing.
 use mathlib.Core.Path.{_≡_, refl, sym, ap, _∙_}
-use mathlib.Core.Logic.{inl, inr}
 use mathlib.Core.Bool.{Bool, true, false}
 use mathlib.Core.List.{List, _++_}
 use Prim.Native.Nat.{ℕ, _+_, _-_, _<_, _≤_}
@@ -10,10 +9,8 @@ use borrow.Author.Count.{below-more}
 use borrow.Author.Tests.{ltb-true, ltb-false}
 use lib.ListN.{length, getD, set, drop, length-set, length-append, length-drop, List·getD-append}
 use lib.Seq.{getD-set-same, getD-set-other, getD-append-add, getD-drop, ext-getD}
-use lib.Dec.{eqb, ltb}
-use Rattle.mesh.specs.Tools.{any}
+use lib.Dec.{ltb}
 use Rattle.mesh.specs.Fill.{Filled}
-use Rattle.mesh.proofs.Tests.{T-any, T-eq, T-no, tried}
 
 pub fill-none : (f v : ℕ → ℕ) (old : List ℕ) → Filled f v old old 0
 fill-none f v old = record { at = λ i h. absurd (omega arith); kept = λ k h. refl; size = refl }
@@ -27,17 +24,6 @@ fill-more f v old new n k x F l apart is e = record {
   kept = λ j h. getD-set-other new k j x 0 (λ q. h n (omega arith) (q ∙ is)) ∙ F .kept j (λ i l. h i (omega arith));
   size = length-set new k x ∙ F .size;
 }
-
--- where each place of the loop gets the value that is right there, no right value is lost
-pub fill-safe : (f v : ℕ → ℕ) (old new : List ℕ) (n : ℕ) → Filled f v old new n → (k x : ℕ) → ((i : ℕ) → i < n → k ≡ f i → v i ≡ x)
-    → getD old k 0 ≡ x → getD new k 0 ≡ x
-fill-safe f v old new n F k x right e = elim (tried (any n λ i. eqb k (f i))) [
-  | inl t ↦
-      let (i, l, h) = T-any n (λ i. eqb k (f i)) .0 t in
-      let q : k ≡ f i = T-eq k (f i) .0 h in
-      ap (λ (j : ℕ). getD new j 0) q ∙ F .at i l ∙ right i l q
-  | inr t ↦ F .kept k (λ i l q. T-no (any n λ i. eqb k (f i)) .0 t (T-any n (λ i. eqb k (f i)) .1 (i, l, T-eq k (f i) .1 q))) ∙ e
-]
 
 -- "Longer outputs keep their remaining places": l at the front, and after it what was there
 module _ (l old : List ℕ) (n : ℕ) (e : length l ≡ n) where

@@ -11,7 +11,7 @@ use lib.Dec.{T, ltb, eqb, ltb→lt, lt→ltb}
 use borrow.Author.Tests.{lt-ltb, le-ltb, ltb-true}
 use Rattle.mesh.specs.Tools.{all, table}
 use Rattle.mesh.specs.Mesh.{Axis, X, Y, Z, span, on, every, place, Inside}
-use Rattle.mesh.specs.Steps.{triple, steps, stepOf, opposite, moved, together, next, along, ahead, behind, reversed}
+use Rattle.mesh.specs.Steps.{triple, stepOf, opposite, moved, together, next, along, ahead, behind, reversed}
 use Rattle.mesh.proofs.Tests.{T-all, T-every, T-eq, cond-true}
 use Rattle.mesh.proofs.Tables.{getD-table}
 use Rattle.mesh.specs.declared.Sizes.{Sizes}
@@ -115,29 +115,20 @@ module _ (S : Sizes) (p : Place) (i : Inside S p) where
   stay-z = stay (p .z) (S .d) (i .z-in)
 
   -- the direction's own axis moves
-  pub next-x : (j : ℕ) → j < 2 → together (moved (p .x) (stepOf j 0) (S .w)) (To (p .y)) (To (p .z)) ≡ next S p j
+  pub next-x : (down : Bool) → together (moved (p .x) (stepOf (along X down) 0) (S .w)) (To (p .y)) (To (p .z)) ≡ next S p (along X down)
   unfolding next
-  next-x zero h = rw (stay-y, stay-z)
-  next-x (suc zero) h = rw (stay-y, stay-z)
-  next-x (suc (suc j)) h = absurd (omega arith)
+  next-x true = rw (stay-y, stay-z)
+  next-x false = rw (stay-y, stay-z)
 
-  pub next-y : (j : ℕ) → 1 < j → j < 4 → together (To (p .x)) (moved (p .y) (stepOf j 1) (S .h)) (To (p .z)) ≡ next S p j
+  pub next-y : (down : Bool) → together (To (p .x)) (moved (p .y) (stepOf (along Y down) 1) (S .h)) (To (p .z)) ≡ next S p (along Y down)
   unfolding next
-  next-y zero l h = absurd (omega arith)
-  next-y (suc zero) l h = absurd (omega arith)
-  next-y (suc (suc zero)) l h = rw (stay-x, stay-z)
-  next-y (suc (suc (suc zero))) l h = rw (stay-x, stay-z)
-  next-y (suc (suc (suc (suc j)))) l h = absurd (omega arith)
+  next-y true = rw (stay-x, stay-z)
+  next-y false = rw (stay-x, stay-z)
 
-  pub next-z : (j : ℕ) → 3 < j → j < 6 → together (To (p .x)) (To (p .y)) (moved (p .z) (stepOf j 2) (S .d)) ≡ next S p j
+  pub next-z : (down : Bool) → together (To (p .x)) (To (p .y)) (moved (p .z) (stepOf (along Z down) 2) (S .d)) ≡ next S p (along Z down)
   unfolding next
-  next-z zero l h = absurd (omega arith)
-  next-z (suc zero) l h = absurd (omega arith)
-  next-z (suc (suc zero)) l h = absurd (omega arith)
-  next-z (suc (suc (suc zero))) l h = absurd (omega arith)
-  next-z (suc (suc (suc (suc zero)))) l h = rw (stay-x, stay-y)
-  next-z (suc (suc (suc (suc (suc zero))))) l h = rw (stay-x, stay-y)
-  next-z (suc (suc (suc (suc (suc (suc j)))))) l h = absurd (omega arith)
+  next-z true = rw (stay-x, stay-y)
+  next-z false = rw (stay-x, stay-y)
 
   pub next-along : (a : Axis) (down : Bool) → next S p (along a down) ≡ stepOn S p a down
   unfolding next

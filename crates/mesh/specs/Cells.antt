@@ -1,7 +1,7 @@
 -- A map, and the questions that its cells answer. Later versions change what stands behind a question, and nothing else. Assumes nothing.
-use mathlib.Core.Bool.{Bool, true, false, cond, not, _&&_}
+use mathlib.Core.Bool.{Bool, cond, not}
 use mathlib.Core.List.{List, [], _∷_}
-use Prim.Native.Nat.{ℕ, zero, suc, _*_}
+use Prim.Native.Nat.{ℕ, suc, _*_}
 use lib.ListN.{getD}
 use lib.Dec.{ltb, eqb}
 use Rattle.mesh.specs.Mesh.{nodes, number}

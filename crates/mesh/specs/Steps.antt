@@ -1,7 +1,7 @@
 -- 01, "Size and numbering": the six unit steps, directions and orientations. Assumes nothing.
 use mathlib.Core.Bool.{Bool, true, false, cond}
 use mathlib.Core.List.{List, [], _∷_}
-use Prim.Native.Nat.{ℕ, zero, suc, _+_, _-_, _*_, _/_, _%_}
+use Prim.Native.Nat.{ℕ, _+_, _-_, _*_, _/_, _%_}
 use lib.IntN.{ℤ, pos, negsuc, _+ℤ_}
 use lib.ListN.{getD}
 use lib.Dec.{ltb, eqb}

@@ -1,4 +1,3 @@
-pub mod Tally
-pub mod Counted
+pub mod Granted
 pub mod Sample
 pub mod Printed

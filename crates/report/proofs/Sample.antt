@@ -14,7 +14,7 @@ use Rattle.touching.specs.Components.{lowest, lowestNodes, howMany}
 use Rattle.format.specs.Format.{trailer, fileOf, hasMark, cellsIn}
 use Rattle.format.specs.Entry.{checkFrame, checkTrailer, readCheck, readAnswer}
 use Rattle.text.specs.Text.{ascii, decimalWithin, told}
-use Rattle.report.specs.Counts.{faultyCount, markedCount}
+use Rattle.counts.specs.Counts.{faultyCount, markedCount}
 use Rattle.report.specs.Report.{orientations, octantLines, report}
 
 -- "Map P is 5 × 5 × 1 with (2,1) and (1,2) faulty"; "P's file of 37 bytes"

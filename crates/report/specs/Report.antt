@@ -6,13 +6,24 @@ use lib.Dec.{eqb}
 use Rattle.mesh.specs.Cells.{Map, mapOf}
 use Rattle.mesh.specs.Answers.{refusalNo}
 use Rattle.mesh.specs.declared.Sizes.{Sizes}
+use Rattle.rules.specs.Marks.{useless, cantReach, marksOf}
+use Rattle.touching.specs.Components.{howMany}
 use Rattle.format.specs.Format.{cellsIn}
 use Rattle.format.specs.Entry.{readAnswer}
 use Rattle.format.specs.declared.MapRead.{MapRead}
 use Rattle.format.specs.declared.MapRead.the-variants.{Read, NotRead}
 use Rattle.text.specs.Text.{ascii, told}
-use Rattle.report.specs.Counts.{faultyCount, figuresOf}
+use Rattle.counts.specs.Counts.{faultyCount, markedCount}
 use Rattle.report.specs.declared.Figures.{Figures}
+
+-- all figures of an orientation, with the "number of components"
+abbrev pub figuresOf : Map → ℕ → Figures
+figuresOf m o =
+    record {
+      useless = markedCount m o useless;
+      «cannot_reach» = markedCount m o cantReach;
+      components = howMany (m .sizes) (marksOf m o);
+    }
 
 -- "First line: sizes and count of faulty nodes."
 abbrev pub firstLine : Sizes → ℕ → List ℕ

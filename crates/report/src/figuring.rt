@@ -1,7 +1,7 @@
 // The figures of a map that is in order.
 use crate::Figures;
-use crate::counting::count_marked;
 use components::entry::compute;
+use counts::count_marked;
 use marks::entry::marks;
 use mesh::Sizes;
 ghost use mathlib.Core.Path.{_≡_};
@@ -12,7 +12,7 @@ ghost use Rattle.rules.specs.Marks.{marksOf};
 ghost use Rattle.mesh.specs.Answers.{checkMap};
 ghost use Rattle.mesh.specs.declared.Answer.the-variants.{Done};
 ghost use Rattle.touching.specs.Components.{howMany};
-ghost use Rattle.report.specs.Counts.{figuresOf};
+ghost use Rattle.report.specs.Report.{figuresOf};
 
 fn blank_table() -> [u16; 4096]
     ensures { λ r. ⌜ length r ≡ 4096 ⌝ }

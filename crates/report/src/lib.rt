@@ -1,6 +1,5 @@
 // The report on a map file: its text, proved byte by byte, and the little that reads and prints.
 
-pub mod counting;
 pub mod figuring;
 pub mod lines;
 pub mod reporting;

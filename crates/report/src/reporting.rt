@@ -1,9 +1,9 @@
 // The report on a file, as text.
-use crate::counting::count_faulty;
 use crate::figuring::figures;
 use crate::lines::first_line;
 use crate::lines::octant_line;
 use crate::lines::refusal_line;
+use counts::count_faulty;
 use format::MapRead;
 use mapfile::reader::read_map;
 use mesh::Sizes;

@@ -22,8 +22,8 @@ use Rattle.talk.specs.Hear.{outstanding}
 use Rattle.talk.specs.Entries.{outstandingAnswer}
 use Rattle.talk.specs.Promise.{workers}
 use Rattle.talk.proofs.Calls.{counts}
-use Rattle.report.specs.Counts.{faultyCount, markedCount, faultyAmong}
-use Rattle.report.proofs.Counted.{faulty-counted}
+use Rattle.counts.specs.Counts.{faultyCount, markedCount, faultyAmong}
+use Rattle.counts.proofs.Counted.{faulty-counted}
 use Rattle.rounds.specs.Links.{Fit}
 use Rattle.rounds.specs.Figures.{marksIn, marksHeld}
 use Rattle.rounds.proofs.Coming.{ranged}

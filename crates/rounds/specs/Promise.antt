@@ -9,7 +9,7 @@ use Rattle.talk.specs.Sound.{fresh}
 use Rattle.talk.specs.Entries.{outstandingAnswer}
 use Rattle.talk.specs.Rounds.{Later, FullRounds}
 use Rattle.talk.specs.Promise.{Settled}
-use Rattle.report.specs.Counts.{markedCount}
+use Rattle.counts.specs.Counts.{markedCount}
 use Rattle.rounds.specs.Rounds.{lossyRounds, afterRounds}
 use Rattle.rounds.specs.Figures.{outstandingAfter, marksAfter, longest, settledAt}
 

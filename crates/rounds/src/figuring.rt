@@ -1,8 +1,8 @@
 // What is told of a map and of a state.
+use counts::count_faulty;
 use field::entry::outstanding;
 use mesh::Numbered;
 use mesh::Sizes;
-use report::counting::count_faulty;
 ghost use mathlib.Core.Path.{_≡_};
 ghost use Prim.Native.Nat.{_≤_};
 ghost use Rattle.mesh.specs.Answers.{checkMap};

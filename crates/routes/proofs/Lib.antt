@@ -1,5 +1,1 @@
 pub mod Ends
-pub mod Following
-pub mod Trails
-pub mod Routing
-pub mod Spreading

@@ -1,7 +1,4 @@
 // The public calls on routes. Each takes every input.
-use crate::follow::write_route;
-use crate::spread::total;
-use crate::spread::write_reached;
 use maps::check_map;
 use maps::may_end;
 use mesh::Answer;
@@ -11,6 +8,9 @@ use mesh::Sizes;
 use paths::Verdict;
 use sweeps::offers::offered;
 use sweeps::signed::hops;
+use trails::follow::write_route;
+use trails::spread::total;
+use trails::spread::write_reached;
 ghost use mathlib.Core.Path.{_≡_};
 ghost use lib.ListN.{length};
 ghost use Rattle.paths.specs.Entries.{checkEnds, verdictAnswer, routeAnswer, routeOut, reachedAnswer, reachedOut};

@@ -1,5 +1,3 @@
 // Routes: the verdict of a transfer, its route, and what is reached on the way, as `paths` defines them.
 
 pub mod entries;
-pub mod follow;
-pub mod spread;

@@ -1,7 +1,7 @@
 -- What a sample of 01 asks, and the numbers that the definitions answer: the refusal's number, then the values. Assumes nothing.
 use mathlib.Core.List.{List, [], _∷_, _++_}
 use Prim.Native.Nat.{ℕ}
-use lib.ListN.{length, take, replicate}
+use lib.ListN.{take, replicate}
 use Rattle.mesh.specs.Mesh.{nodes}
 use Rattle.mesh.specs.Cells.{Map, stateLength}
 use Rattle.mesh.specs.Answers.{answerNo, refusalNo}

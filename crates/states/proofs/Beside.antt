@@ -8,7 +8,7 @@ use lib.Bits.{bitAnd, bitOr, and-le-r, and-zero-r, or-lt}
 use lib.Dec.{T, eqb}
 use Rattle.mesh.specs.Tools.{bit, implies, all}
 use Rattle.mesh.specs.Mesh.{X, Y, Z, InRange}
-use Rattle.mesh.specs.Steps.{runsDown, along, ahead}
+use Rattle.mesh.specs.Steps.{runsDown, along}
 use Rattle.rules.specs.Marks.{counted, rule}
 use Rattle.mesh.specs.declared.Sizes.{Sizes}
 use Rattle.mesh.proofs.Bits.{bit-le, bit-and}

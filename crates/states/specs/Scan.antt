@@ -5,7 +5,7 @@ use mathlib.Core.List.{List, [], _∷_}
 use mathlib.Core.Path.{_≡_}
 use Prim.Native.Nat.{ℕ, zero, suc, _+_, _-_, _*_, _<_, _≤_}
 use lib.Bits.{bitAnd, bitOr}
-use lib.Dec.{T, eqb, ltb}
+use lib.Dec.{eqb, ltb}
 use lib.ListN.{length, getD}
 use Rattle.mesh.specs.Tools.{bit, all, sum, count}
 use Rattle.mesh.specs.Mesh.{X, Y, Z, InRange, number, placeOf}

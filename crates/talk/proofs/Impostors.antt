@@ -18,7 +18,6 @@ use Rattle.mesh.specs.declared.Answer.the-variants.{Done, Refused}
 use Rattle.mesh.specs.declared.Numbered.{Numbered}
 use Rattle.mesh.specs.declared.Numbered.the-variants.{Number, NotNumbered}
 use Rattle.talk.specs.State.{own, worksNode}
-use Rattle.talk.specs.Sound.{fresh}
 use Rattle.talk.specs.Hear.{outstandingOn}
 use Rattle.talk.specs.Entries.{freshAnswer, freshOut, soundAnswer, outstandingAnswer, hearAnswer, hearOut}
 use Rattle.talk.specs.Rounds.{Call, hearing, asking, making, run, stretch, FullRounds, none, more}

@@ -51,12 +51,12 @@ use Rattle.components.proofs.storing.store as sto
 use Rattle.components.proofs.storing.store.Symbol as sto-def
 use Rattle.components.proofs.storing.store.Symbol.{name as #components·storing·store}
 use Rattle.components.proofs.storing.store.Met as sto-thm
-use Rattle.dukthari.specs.declared.CountedAnswer.{CountedAnswer}
+use Rattle.answers.specs.declared.CountedAnswer.{CountedAnswer}
 use Rattle.dukthari.specs.declared.Grouped.{Grouped}
-use Rattle.dukthari.specs.Answers.{countedFields}
+use Rattle.answers.specs.Fields.{countedFields}
 use Rattle.dukthari.specs.Grouping.{Grouping}
-use Rattle.dukthari.proofs.CountedAnswer as K
-use Rattle.dukthari.proofs.CountedAnswer.Laws as K′
+use Rattle.answers.proofs.CountedAnswer as K
+use Rattle.answers.proofs.CountedAnswer.Laws as K′
 use Rattle.dukthari.proofs.Grouped as G
 use Rattle.dukthari.proofs.Grouped.Laws as G′
 use Rattle.dukthari.proofs.grouping.compute as cmp
@@ -75,9 +75,6 @@ abbrev stayed : Stays (f.ended .signature .params) (f.ended .kept)
 stayed = (stay-none (λ _. u32) yes, (stay-none (λ _. u32) yes, (stay-none (λ _. u32) yes, (stay-none (λ _. u32) yes, (stay-none-slice (0 ∷ []) tt (plain (λ _. u8)) yes, (gave-slice (1 ∷ []) tt (plain (λ _. u16)), (gave-slice (2 ∷ []) tt (plain (λ _. R)), tt)))))))
 
 -- ---- the machine values of the fields of what is found, and what is known of them
-abbrev outVal : Grouped → Val
-outVal = LL.val G.the-type G′.the-laws
-
 abbrev answerVal : Grouped → Val
 answerVal r = G′.the-laws .0 .val (G.the-type .to r .0)
 

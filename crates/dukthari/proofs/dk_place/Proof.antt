@@ -1,29 +1,15 @@
--- `dukthari::dk_place` meets its contract: the answer is taken apart by its cases, and the place of a node that is granted fits. Assumes nothing.
-use mathlib.Core.Path.{_≡_, _∙_, sym, ap}
+-- `dukthari::dk_place` meets its contract: the answer is passed on, and its place fits. Assumes nothing.
+use mathlib.Core.Path.{_∙_}
+use Rattle.dukthari.proofs.Small.{place-small}
 use borrow.Author.Needs.{needs}
-use Rattle.mesh.specs.Mesh.{sizes}
-use Rattle.mesh.specs.Answers.{placeAnswer}
-use Rattle.mesh.proofs.Granted.{place-fits}
-use Rattle.dukthari.specs.Answers.{placeFields}
-use Rattle.dukthari.proofs.Small.{inside-fits}
 use Rattle.dukthari.proofs.dk_place.Statement.{statement}
 use Rattle.dukthari.proofs.dk_place.Tie as tie
 
--- the answer is that of the sizes that were given
-answered : (c : tie.After-place-of) →
-    let a = c .before .before .args in c .place-of .result ≡ placeAnswer (sizes (a .w) (a .h) (a .d)) (a .node)
-answered c = rw (c .before .sizes-of .ensures) at (c .place-of .ensures)
-
-placed-requires : tie.Need-placed-requires
-placed-requires c κs = inside-fits _ _ (place-fits _ _ _ (sym (answered (c .before .before .before)) ∙ c .before .a .given .1))
+place-fields-requires : tie.Need-place-fields-requires
+place-fields-requires c κs = rw (c .place-of .ensures, c .before .sizes-of .ensures) (place-small _ _)
 
 returns : tie.Need-returns
-returns c = c .placed .ensures ∙ ap placeFields (sym (c .before .before .a .given .1) ∙ answered (c .before .before .before .before))
-
-returns-2 : tie.Need-returns-2
-returns-2 c = rw (c .number .ensures) (ap placeFields (sym (c .before .before .a2 .given .1) ∙ answered (c .before .before .before .before)))
+returns c = c .place-fields .ensures ∙ (rw (c .before .place-of .ensures, c .before .before .sizes-of .ensures))
 
 pub dk-place-spec : {M : Type 1} → statement M
-dk-place-spec =
-    tie.close (tie.spec (λ c κs. search needs) (λ c κs. search needs) (λ c. search needs) placed-requires
-    (λ c. search needs) (λ c κs. search needs) returns returns-2)
+dk-place-spec = tie.close (tie.spec (λ c κs. search needs) (λ c κs. search needs) place-fields-requires returns)

@@ -1,4 +1,4 @@
--- `field::making::first_own` meets its contract: the rule of each mark, the second in the reversed orientation. Assumes nothing.
+-- `making::first_own` meets its contract: the rule of each mark, the second in the reversed orientation. Assumes nothing.
 use Rattle.making.specs.Making.{firstRule}
 use borrow.Author.Needs.{needs}
 use Rattle.making.proofs.first_own.Statement.{statement}

@@ -1,4 +1,4 @@
--- `field::making::fresh_down` meets its contract: the neighbour is there where the coordinate is not 0. Assumes nothing.
+-- `making::fresh_down` meets its contract: the neighbour is there where the coordinate is not 0. Assumes nothing.
 use borrow.Author.Tests.{lt-ltb, le-ltb}
 use borrow.Author.Needs.{needs}
 use Rattle.making.proofs.fresh_down.Statement.{statement}

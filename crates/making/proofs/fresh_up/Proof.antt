@@ -1,4 +1,4 @@
--- `field::making::fresh_up` meets its contract: the neighbour is there where its coordinate is on the axis. Assumes nothing.
+-- `making::fresh_up` meets its contract: the neighbour is there where its coordinate is on the axis. Assumes nothing.
 use native.Mathlib.Omega.{arith}
 use borrow.Author.Tests.{lt-ltb, le-ltb}
 use borrow.Author.Needs.{needs}

@@ -1,4 +1,4 @@
--- `field::making::put_axis` meets its contract: two stores. Assumes nothing.
+-- `making::put_axis` meets its contract: two stores. Assumes nothing.
 use mathlib.Core.Path.{refl}
 use native.Mathlib.Omega.{arith}
 use denote.Ref.{now}

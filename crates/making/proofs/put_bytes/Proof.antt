@@ -1,4 +1,4 @@
--- `field::making::put_bytes` meets its contract: three axes and the own byte. Assumes nothing.
+-- `making::put_bytes` meets its contract: three axes and the own byte. Assumes nothing.
 use mathlib.Core.Path.{_≡_, _∙_}
 use denote.Ref.{now}
 use lib.ListN.{length, length-set}

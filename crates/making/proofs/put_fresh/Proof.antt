@@ -1,4 +1,4 @@
--- `field::making::put_fresh` meets its contract: so many layers are done, and in the end all nodes are. Assumes nothing.
+-- `making::put_fresh` meets its contract: so many layers are done, and in the end all nodes are. Assumes nothing.
 use mathlib.Core.Path.{_≡_, sym, _∙_, subst}
 use Prim.Native.Nat.{ℕ, _-_, _*_, _≤_}
 use native.Mathlib.Nat.{mul-zero}

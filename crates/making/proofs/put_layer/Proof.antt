@@ -1,4 +1,4 @@
--- `field::making::put_layer` meets its contract: so many rows of the layer are done. Assumes nothing.
+-- `making::put_layer` meets its contract: so many rows of the layer are done. Assumes nothing.
 use mathlib.Core.Path.{_≡_, sym, _∙_, subst}
 use Prim.Native.Nat.{ℕ, _+_, _-_, _*_, _≤_}
 use native.Mathlib.Omega.{arith}

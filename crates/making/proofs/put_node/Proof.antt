@@ -1,4 +1,4 @@
--- `field::making::put_node` meets its contract: a faulty node has seven fixed bytes. Assumes nothing.
+-- `making::put_node` meets its contract: a faulty node has seven fixed bytes. Assumes nothing.
 use mathlib.Core.Path.{_≡_, sym, _∙_}
 use native.Mathlib.Omega.{arith}
 use denote.Ref.{now}

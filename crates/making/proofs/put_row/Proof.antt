@@ -1,4 +1,4 @@
--- `field::making::put_row` meets its contract: so many nodes of the row are done. Assumes nothing.
+-- `making::put_row` meets its contract: so many nodes of the row are done. Assumes nothing.
 use mathlib.Core.Path.{_≡_, sym, _∙_, subst}
 use Prim.Native.Nat.{ℕ, _+_, _-_, _*_, _≤_}
 use native.Mathlib.Omega.{arith}

@@ -1,5 +1,5 @@
--- `field::making::put_working` meets its contract: what the neighbours' cells say, and the own byte by the mark rule. Assumes nothing.
-use mathlib.Core.Path.{_≡_, _∙_}
+-- `making::put_working` meets its contract: what the neighbours' cells say, and the own byte by the mark rule. Assumes nothing.
+use mathlib.Core.Path.{_≡_, ap, _∙_}
 use Prim.Native.Nat.{_<_}
 use native.Mathlib.Omega.{arith}
 use denote.Ref.{now}
@@ -8,7 +8,7 @@ use Rattle.mesh.specs.Mesh.{Axis, X, Y, Z, span, on}
 use Rattle.mesh.proofs.Numbers.{nodes-le, layer-le, number-lt}
 use Rattle.mesh.proofs.Strides.{stride}
 use Rattle.states.specs.Scan.{Near, six}
-use Rattle.making.specs.Making.{firstRule, Put}
+use Rattle.making.specs.Making.{firstRule, sides, Put}
 use Rattle.states.proofs.Packed.{six-is}
 use Rattle.states.proofs.Shown.{beside}
 use Rattle.making.proofs.Made.{firsts, firsts-first, working-done}
@@ -68,20 +68,9 @@ returns c =
     let a = s .args in
     let cells = now (a .cells) in
     let h = firsts (a .s) cells (a .o) (a .k) (a .p) (s .pre .2) (s .pre .3) (s .pre .5) in
-    let joined : q .six .result ≡ six h =
-    q .six .ensures
-    ∙ (rw (
-      ux .fresh-up .ensures,
-      dx .fresh-down .ensures,
-      uy .fresh-up2 .ensures,
-      dy .fresh-down2 .ensures,
-      uz .fresh-up3 .ensures,
-      dz .fresh-down3 .ensures,
-    )
-    (six-is h)) in
-    let own : r .first-own .result ≡ firstRule (a .s) (a .o) h =
-    r .first-own .ensures h (firsts-first (a .s) cells (a .o) (a .k) (a .p) (s .pre .2) (s .pre .3) (s .pre .5)) joined in
-    let done : Put (now (a .state)) (b .put-bytes .last .0) (a .k) (r .first-own .result) h =
+    let told = sides (ux .fresh-up .result) (dx .fresh-down .result) (uy .fresh-up2 .result) (dy .fresh-down2 .result) (uz .fresh-up3 .result)
+    (dz .fresh-down3 .result) in
+    let first : told ≡ h =
     rw (
       ux .fresh-up .ensures,
       dx .fresh-down .ensures,
@@ -89,8 +78,11 @@ returns c =
       dy .fresh-down2 .ensures,
       uz .fresh-up3 .ensures,
       dz .fresh-down3 .ensures,
-    )
-    at (b .put-bytes .ensures) in
+    ) in
+    let own : r .first-own .result ≡ firstRule (a .s) (a .o) h =
+    r .first-own .ensures h (firsts-first (a .s) cells (a .o) (a .k) (a .p) (s .pre .2) (s .pre .3) (s .pre .5))
+    (q .six .ensures ∙ six-is told ∙ ap six first) in
+    let done : Put (now (a .state)) (b .put-bytes .last .0) (a .k) (r .first-own .result) h = rw first at (b .put-bytes .ensures) in
     working-done (a .s) cells (a .o) (a .k) (a .p) (s .pre .2) (s .pre .3) (s .pre .5) (now (a .state)) (b .put-bytes .last .0)
     (r .first-own .result) own (s .pre .6) (b .put-bytes .kept .0) done
 

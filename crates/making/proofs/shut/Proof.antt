@@ -1,4 +1,4 @@
--- `field::making::shut` meets its contract: the bytes ahead all block where each has the bit of 1. Assumes nothing.
+-- `making::shut` meets its contract: the bytes ahead all block where each has the bit of 1. Assumes nothing.
 use mathlib.Core.Path.{sym, ap, _∙_}
 use native.Mathlib.Omega.{arith}
 use borrow.Author.Tests.{eq-eqb, ne-eqb}

@@ -1,4 +1,4 @@
--- `entry::blank_grid` meets its contract. Assumes nothing.
+-- `components::entry::blank_grid` meets its contract. Assumes nothing.
 use mathlib.Core.Path.{_≡_, refl}
 use Prim.Native.Nat.{ℕ, zero, suc}
 use lib.ListN.{getD, replicate}

@@ -1,4 +1,4 @@
--- `entry::compute` meets its contract: the flood on what is laid, and then the answer. Assumes nothing.
+-- `components::entry::compute` meets its contract: the flood on what is laid, and then the answer. Assumes nothing.
 use mathlib.Core.Path.{sym, _∙_}
 use denote.Ref.{now}
 use borrow.Author.Needs.{needs}

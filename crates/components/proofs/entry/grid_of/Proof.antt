@@ -1,4 +1,4 @@
--- `entry::grid_of` meets its contract: the front of what the marks are written to is laid into the grid. Assumes nothing.
+-- `components::entry::grid_of` meets its contract: the front of what the marks are written to is laid into the grid. Assumes nothing.
 use mathlib.Core.Path.{_≡_, sym, ap, _∙_}
 use mathlib.Core.List.{List}
 use Prim.Native.Nat.{ℕ}
@@ -13,7 +13,7 @@ use Rattle.mesh.specs.declared.Answer.the-variants.{Done}
 use Rattle.rules.proofs.Marks.{marks-length}
 use Rattle.marks.specs.Entry.{marksAnswer, marksWritten, marksOut}
 use Rattle.marks.proofs.Answer.{Granted, marks-granted}
-use Rattle.components.specs.Grid.{gridAt}
+use Rattle.grids.specs.Grid.{gridAt}
 use borrow.Author.Needs.{needs}
 use Rattle.components.proofs.entry.grid_of.Statement.{statement}
 use Rattle.components.proofs.entry.grid_of.Tie as tie

@@ -1,4 +1,4 @@
--- `entry::settle` meets its contract: the refusals in their order, and then the table. Assumes nothing.
+-- `components::entry::settle` meets its contract: the refusals in their order, and then the table. Assumes nothing.
 use Prim.Native.Nat.{_≤_}
 use native.Mathlib.Omega.{arith}
 use borrow.Author.Needs.{needs}

@@ -1,4 +1,4 @@
--- `storing::store` meets its contract: a walk of its MIR, by hand, since its row is a slice of structs. The borrow of the row is opened once, before the
+-- `components::storing::store` meets its contract: a walk of its MIR, by hand, since its row is a slice of structs. The borrow of the row is opened once, before the
 -- loop, and closed once, after it. The records lie in a local array. In each turn one of them is read, and one element of the row is taken out,
 -- stored to and put back. Assumes nothing.
 use mathlib.Core.Path.{_≡_, refl, sym, ap, subst, _∙_}

@@ -8,7 +8,7 @@ use lib.Seq.{length-take-le}
 use Rattle.mesh.proofs.Answers.{map-granted}
 use Rattle.text.proofs.Saying.{said-next, said-as}
 use Rattle.report.specs.Report.{firstLine}
-use Rattle.report.proofs.Counted.{faulty-counted}
+use Rattle.counts.proofs.Counted.{faulty-counted}
 use borrow.Author.Needs.{needs}
 use Rattle.gossiping.proofs.texting.map_text.Statement.{statement}
 use Rattle.gossiping.proofs.texting.map_text.Tie as tie

@@ -1,4 +1,4 @@
--- `marks::join::join` meets its contract: turn i reads byte i, which no turn before it wrote. Assumes nothing.
+-- `layers::join::join` meets its contract: turn i reads byte i, which no turn before it wrote. Assumes nothing.
 use mathlib.Core.Path.{_≡_, refl, _∙_, subst}
 use Prim.Native.Nat.{ℕ, _-_, _≤_}
 use native.Mathlib.Omega.{arith}

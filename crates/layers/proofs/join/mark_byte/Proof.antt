@@ -1,4 +1,4 @@
--- `marks::join::mark_byte` meets its contract. Assumes nothing.
+-- `layers::join::mark_byte` meets its contract. Assumes nothing.
 use mathlib.Core.Path.{_∙_, sym}
 use borrow.Author.Needs.{needs}
 use Rattle.layers.proofs.join.mark_byte.Statement.{statement}

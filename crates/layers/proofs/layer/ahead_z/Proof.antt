@@ -1,4 +1,4 @@
--- `marks::layer::ahead_z` meets its contract. Assumes nothing.
+-- `layers::layer::ahead_z` meets its contract. Assumes nothing.
 use mathlib.Core.Path.{_∙_}
 use native.Mathlib.Omega.{arith}
 use borrow.Author.Needs.{needs}

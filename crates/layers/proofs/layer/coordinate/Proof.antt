@@ -1,4 +1,4 @@
--- `marks::layer::coordinate` meets its contract. Assumes nothing.
+-- `layers::layer::coordinate` meets its contract. Assumes nothing.
 use borrow.Author.Needs.{needs}
 use Rattle.layers.proofs.layer.coordinate.Statement.{statement}
 use Rattle.layers.proofs.layer.coordinate.Tie as tie

@@ -1,4 +1,4 @@
--- `marks::layer::row` meets its contract: it asks for the row with b and c steps left, and for those ahead of it. Assumes nothing.
+-- `layers::layer::row` meets its contract: it asks for the row with b and c steps left, and for those ahead of it. Assumes nothing.
 use mathlib.Core.Path.{_≡_, _∙_}
 use Prim.Native.Nat.{ℕ, _-_, _<_}
 use native.Mathlib.Omega.{arith}

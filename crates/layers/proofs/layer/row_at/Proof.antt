@@ -1,4 +1,4 @@
--- `marks::layer::row_at` meets its contract: turn a writes the byte with a steps left, from two ahead that no turn wrote. Assumes nothing.
+-- `layers::layer::row_at` meets its contract: turn a writes the byte with a steps left, from two ahead that no turn wrote. Assumes nothing.
 use mathlib.Core.Path.{_≡_, refl, sym, _∙_, ap, subst}
 use Prim.Native.Nat.{ℕ, _-_, _≤_}
 use native.Mathlib.Omega.{arith}

@@ -1,4 +1,4 @@
--- `marks::layer::rows` meets its contract: turn b sweeps the row with b steps left. Assumes nothing.
+-- `layers::layer::rows` meets its contract: turn b sweeps the row with b steps left. Assumes nothing.
 use mathlib.Core.Path.{_≡_, refl, _∙_, subst}
 use Prim.Native.Nat.{ℕ, _+_, _-_, _*_, _≤_}
 use native.Mathlib.Omega.{arith}

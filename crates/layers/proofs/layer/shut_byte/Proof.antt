@@ -1,4 +1,4 @@
--- `marks::layer::shut_byte` meets its contract: bytes that are 0 or 1 are joined as tests are. Assumes nothing.
+-- `layers::layer::shut_byte` meets its contract: bytes that are 0 or 1 are joined as tests are. Assumes nothing.
 use borrow.Author.Needs.{needs}
 use Rattle.mesh.specs.Cells.{faultyCell}
 use Rattle.layers.proofs.Turns.{shut-is}

@@ -9,7 +9,7 @@ use Rattle.mesh.specs.Answers.{answerValue}
 use Rattle.mesh.specs.declared.Answer.{Answer}
 use Rattle.touching.specs.Components.{howMany}
 use Rattle.touching.specs.Entry.{componentsCheck}
-use Rattle.report.proofs.Counted.{components-granted}
+use Rattle.report.proofs.Granted.{components-granted}
 use Rattle.report.proofs.figuring.count_components.Statement.{statement}
 use Rattle.report.proofs.figuring.count_components.Tie as tie
 

@@ -10,8 +10,9 @@ use Rattle.mesh.specs.Cells.{mapOf}
 use Rattle.rules.specs.Marks.{marksOf}
 use Rattle.mesh.proofs.Answers.{map-granted}
 use Rattle.rules.proofs.Marks.{marks-length}
-use Rattle.report.specs.Counts.{withBit}
-use Rattle.report.proofs.Counted.{marks-front, useless-counted, cant-reach-counted}
+use Rattle.counts.specs.Counts.{withBit}
+use Rattle.counts.proofs.Counted.{useless-counted, cant-reach-counted}
+use Rattle.report.proofs.Granted.{marks-front}
 use Rattle.report.proofs.figuring.figures.Statement.{statement}
 use Rattle.report.proofs.figuring.figures.Tie as tie
 

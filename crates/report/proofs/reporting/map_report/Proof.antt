@@ -5,7 +5,7 @@ use borrow.Author.Needs.{needs}
 use denote.Ref.{now}
 use Rattle.text.proofs.Saying.{said-next, said-as}
 use Rattle.report.specs.Report.{firstLine}
-use Rattle.report.proofs.Counted.{faulty-counted}
+use Rattle.counts.proofs.Counted.{faulty-counted}
 use Rattle.report.proofs.reporting.map_report.Statement.{statement}
 use Rattle.report.proofs.reporting.map_report.Tie as tie
 

@@ -12,7 +12,7 @@ use Rattle.mesh.specs.declared.Sizes.{Sizes}
 use Rattle.text.specs.Text.{Said}
 use Rattle.text.proofs.Saying.{said-none, said-next, said-as}
 use Rattle.report.specs.Report.{orientations, octantLine, octantLines}
-use Rattle.report.specs.Counts.{figuresOf}
+use Rattle.report.specs.Report.{figuresOf}
 use Rattle.report.proofs.reporting.octant_lines.Statement.{statement}
 use Rattle.report.proofs.reporting.octant_lines.Tie as tie
 

@@ -8,7 +8,7 @@ use lib.ListN.{length}
 use Rattle.mesh.specs.Mesh.{nodes, placeOf}
 use Rattle.mesh.specs.Cells.{mapOf}
 use Rattle.routes.proofs.Ends.{Past, past-ends}
-use Rattle.routes.proofs.Spreading.{front-bits, reached-refused, reached-3, reached-0}
+use Rattle.trails.proofs.Spreading.{front-bits, reached-refused, reached-3, reached-0}
 use Rattle.routes.proofs.entries.reached.Statement.{statement}
 use Rattle.routes.proofs.entries.reached.Tie as tie
 

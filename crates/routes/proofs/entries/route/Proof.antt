@@ -3,7 +3,7 @@ use mathlib.Core.Path.{sym, _∙_}
 use borrow.Author.Needs.{needs}
 use denote.Ref.{now}
 use Rattle.routes.proofs.Ends.{Past, past-ends}
-use Rattle.routes.proofs.Routing.{route-refused, route-past}
+use Rattle.trails.proofs.Routing.{route-refused, route-past}
 use Rattle.routes.proofs.entries.route.Statement.{statement}
 use Rattle.routes.proofs.entries.route.Tie as tie
 

@@ -1,0 +1,5 @@
+pub mod Parts
+pub mod Boxes
+pub mod Labels
+pub mod Few
+pub mod Turns

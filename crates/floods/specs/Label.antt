@@ -1,0 +1,75 @@
+-- What is promised of the grid after the flood has been through it: the components have their numbers, and each has its record. Assumes nothing.
+use mathlib.Core.List.{List}
+use mathlib.Core.Logic.{_⊎_}
+use mathlib.Core.Path.{_≡_}
+use Prim.Native.Nat.{ℕ, suc, _-_, _/_, _%_, _<_, _≤_, min, max}
+use lib.ListN.{length, getD}
+use Rattle.mesh.specs.Mesh.{Axis, X, Y, Z, on}
+use Rattle.mesh.specs.declared.Place.{Place}
+use Rattle.grids.specs.Grid.{gridSize, unseen, placeAt, Spot, Beside, Linked, howOften}
+use Rattle.touching.specs.declared.Component.{Component}
+
+-- a record's least and greatest coordinate on an axis
+abbrev pub leastOf : Component → Axis → ℕ
+leastOf c X = c .x0
+leastOf c Y = c .y0
+leastOf c Z = c .z0
+
+abbrev pub greatestOf : Component → Axis → ℕ
+greatestOf c X = c .x1
+greatestOf c Y = c .y1
+greatestOf c Z = c .z1
+
+-- the record of n nodes that lie all at p, and a record widened to a place
+abbrev pub alone : Place → ℕ → Component
+alone p n = record { count = n; x0 = p .x; y0 = p .y; z0 = p .z; x1 = p .x; y1 = p .y; z1 = p .z }
+
+abbrev pub widen : Component → Place → Component
+widen c p =
+    record {
+      count = c .count;
+      x0 = min (c .x0) (p .x);
+      y0 = min (c .y0) (p .y);
+      z0 = min (c .z0) (p .z);
+      x1 = max (c .x1) (p .x);
+      y1 = max (c .y1) (p .y);
+      z1 = max (c .z1) (p .z);
+    }
+
+-- the first n places of the queue lie within lo and hi on an axis, and reach both
+pub record Ranged (q : List ℕ) (n : ℕ) (axis : Axis) (lo hi : ℕ) : Type 0 where
+  pub within : (t : ℕ) → t < n → (lo ≤ on (placeAt (getD q t 0)) axis) × (on (placeAt (getD q t 0)) axis ≤ hi)
+  pub at-lo : (t : ℕ) × (t < n) × (on (placeAt (getD q t 0)) axis ≡ lo)
+  pub at-hi : (t : ℕ) × (t < n) × (on (placeAt (getD q t 0)) axis ≡ hi)
+
+-- the same of the places that hold the number m
+pub record Spans (h : List ℕ) (m : ℕ) (axis : Axis) (lo hi : ℕ) : Type 0 where
+  pub within : (j : ℕ) → getD h j 0 ≡ m → (lo ≤ on (placeAt j) axis) × (on (placeAt j) axis ≤ hi)
+  pub at-lo : (j : ℕ) × (getD h j 0 ≡ m) × (on (placeAt j) axis ≡ lo)
+  pub at-hi : (j : ℕ) × (getD h j 0 ≡ m) × (on (placeAt j) axis ≡ hi)
+
+-- c is the record of the component with number m
+pub record Recorded (h : List ℕ) (m : ℕ) (c : Component) : Type 0 where
+  pub members : c .count ≡ howOften h m
+  pub spans : (axis : Axis) → Spans h m axis (leastOf c axis) (greatestOf c axis)
+
+-- a grid before the flood
+abbrev pub Untouched : List ℕ → Type 0
+Untouched g = (j : ℕ) → (getD g j 0 ≡ 0) ⊎ ((getD g j 0 ≡ unseen) × Spot j)
+
+-- the unsafe places lie in the first h rows of the first d layers
+abbrev pub Within : ℕ → ℕ → List ℕ → Type 0
+Within h d g = (j : ℕ) → getD g j 0 ≡ unseen → ((j - 307) / 17 % 17 < h) × ((j - 307) / 289 < d)
+
+-- The places below k have been passed, and n components have been found: g was the grid before, h is the grid now.
+pub record Labelled (g : List ℕ) (k n : ℕ) (h : List ℕ) (row : List Component) : Type 0 where
+  pub size : length h ≡ gridSize
+  pub kept : (j : ℕ) → (getD h j 0 ≡ getD g j 0) ⊎ ((getD g j 0 ≡ unseen) × (1 ≤ getD h j 0) × (getD h j 0 ≤ n))
+  pub passed : (j : ℕ) → j < k → getD h j 0 ≡ unseen → ⊥
+  -- no unsafe place beside a numbered one has another number, or none
+  pub closed : (i j : ℕ) → 1 ≤ getD h i 0 → getD h i 0 ≤ n → Beside i j → getD g j 0 ≡ unseen → getD h j 0 ≡ getD h i 0
+  -- each number is used, and its places are linked
+  pub linked : (i : ℕ) → i < n → (a : ℕ) × (a < k) × (getD h a 0 ≡ suc i) × ((j : ℕ) → getD h j 0 ≡ suc i → Linked g a j)
+  -- below each place of a component lie places of all components with lower numbers
+  pub rising : (i l j : ℕ) → l < i → i < n → getD h j 0 ≡ suc i → (b : ℕ) × (b < j) × (getD h b 0 ≡ suc l)
+  pub recorded : (i : ℕ) (c : Component) → i < n → Recorded h (suc i) (getD row i c)

@@ -1,0 +1,4 @@
+pub mod Following
+pub mod Trails
+pub mod Routing
+pub mod Spreading
