@@ -1,7 +1,7 @@
 -- The number and values of each answer, as the C boundary returns them. Assumes nothing.
 -- "A granted call returns number 0 with its values. A refusal returns its number and 0 for every value."
 use mathlib.Core.Path.{_≡_}
-use Prim.Native.Nat.{ℕ, _≤_}
+use Prim.Native.Nat.{_≤_}
 use Rattle.mesh.specs.Answers.{refusalNo, refusalBad, answerNo, answerBad}
 use Rattle.mesh.specs.declared.Answer.{Answer}
 use Rattle.mesh.specs.declared.Numbered.{Numbered}
@@ -22,7 +22,6 @@ use Rattle.answers.specs.declared.MapAnswer.{MapAnswer}
 use Rattle.paths.specs.Entries.{verdictNo, verdictBad, verdictHops, verdictOffered}
 use Rattle.paths.specs.declared.Verdict.{Verdict}
 use Rattle.paths.specs.declared.Verdict.the-variants.{Granted, NotGranted}
-use Rattle.format.specs.Entry.{readNo, readBad, readSizes}
 use Rattle.format.specs.declared.MapRead.{MapRead}
 use Rattle.format.specs.declared.MapRead.the-variants.{Read, NotRead}
 use Rattle.mesh.specs.Mesh.{InRange}
@@ -32,15 +31,12 @@ abbrev pub nodeFields : Numbered → NodeAnswer
 nodeFields (Number n) = record { refusal = 0; node = n }
 nodeFields (NotNumbered r) = record { refusal = refusalNo r; node = 0 }
 
--- it fits 32 bits
-abbrev pub NodeFits : Numbered → Type 0
-NodeFits a = (n : ℕ) → a ≡ Number n → n ≤ 65536
-
 -- the place of a node
 abbrev pub placeFields : Placed → PlaceAnswer
 placeFields (Found p) = record { refusal = 0; x = p .x; y = p .y; z = p .z }
 placeFields (NotPlaced r) = record { refusal = refusalNo r; x = 0; y = 0; z = 0 }
 
+-- it fits 32 bits
 abbrev pub PlaceFits : Place → Type 0
 PlaceFits p = (p .x ≤ 65536) × (p .y ≤ 65536) × (p .z ≤ 65536)
 
@@ -79,7 +75,8 @@ VerdictFits (NotGranted r) = refusalBad r ≤ 65536
 
 -- a map that was read
 abbrev pub mapFields : MapRead → MapAnswer
-mapFields a = record { refusal = readNo a; bad = readBad a; w = readSizes a .w; h = readSizes a .h; d = readSizes a .d }
+mapFields (Read S) = record { refusal = 0; bad = 0; w = S .w; h = S .h; d = S .d }
+mapFields (NotRead r) = record { refusal = refusalNo r; bad = refusalBad r; w = 0; h = 0; d = 0 }
 
 abbrev pub MapFits : MapRead → Type 0
 MapFits (Read S) = InRange S

@@ -1,4 +1,4 @@
-// What goes in and out at the boundary: sizes and places of numbers, and the fields of each answer. include/dukthari.h declares the answers.
+// What goes in and out at the boundary: sizes and places made from numbers, and the fields of each answer. include/dukthari.h declares the answers.
 use format::MapRead;
 use mesh::Answer;
 use mesh::Next;
@@ -15,7 +15,7 @@ ghost use Rattle.mesh.specs.Mesh.{sizes, place};
 ghost use Rattle.mesh.specs.Answers.{refusalBad, answerBad};
 ghost use Rattle.mesh.specs.declared.Answer.the-variants.{Refused};
 ghost use Rattle.mesh.specs.declared.Placed.the-variants.{Found};
-ghost use Rattle.answers.specs.Fields.{NodeFits, nodeFields, PlaceFits, PlacedFits, placeFields, SteppedFits, stepFields, doneFields, NumberedFits, countedFields, VerdictFits, verdictFields, MapFits, mapFields};
+ghost use Rattle.answers.specs.Fields.{nodeFields, PlaceFits, PlacedFits, placeFields, SteppedFits, stepFields, doneFields, NumberedFits, countedFields, VerdictFits, verdictFields, MapFits, mapFields};
 
 #[repr(C)]
 pub struct NodeAnswer {
@@ -71,6 +71,7 @@ pub struct MapAnswer {
     pub d: u32,
 }
 
+// Sizes, of any three numbers.
 pub fn sizes_of(w: u32, h: u32, d: u32) -> Sizes
     ensures { λ r. ⌜ r ≡ sizes w h d ⌝ }
 {
@@ -81,6 +82,7 @@ pub fn sizes_of(w: u32, h: u32, d: u32) -> Sizes
     }
 }
 
+// A place, of any three numbers.
 pub fn place_at(x: u32, y: u32, z: u32) -> Place
     ensures { λ r. ⌜ r ≡ place x y z ⌝ }
 {
@@ -93,7 +95,7 @@ pub fn place_at(x: u32, y: u32, z: u32) -> Place
 
 // The fields of a number.
 pub fn node_fields(a: Numbered) -> NodeAnswer
-    requires { ⌜ NodeFits a ⌝ }
+    requires { ⌜ NumberedFits a ⌝ }
     ensures { λ r. ⌜ r ≡ nodeFields a ⌝ }
 {
     match a {

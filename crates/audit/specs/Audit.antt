@@ -13,7 +13,7 @@ use Rattle.logfile.specs.declared.Entry.{Entry}
 use Rattle.logfile.specs.declared.Entry.the-variants.{Nothing, Transfer, NoPair}
 use Rattle.audit.specs.declared.Totals.{Totals}
 
--- "A line that is no pair of numbers is reported with its line number"
+-- a line that is no pair of numbers is told with its number
 abbrev pub noPairText : ℕ → List ℕ
 noPairText k = told (ascii "line %: no pair of numbers\n") (k ∷ [])
 
@@ -59,7 +59,7 @@ nothingYet = record { lines = 0; granted = 0; pathless = 0; refused = 0; unread 
 abbrev pub totalsOf : Sizes → List ℕ → List ℕ → Totals
 totalsOf S cells log = totalsFrom S cells nothingYet (linesOf log)
 
--- "It ends with totals."
+-- at the end come the totals
 abbrev pub totalsText : Totals → List ℕ
 totalsText t =
     told (ascii "totals: lines %, granted %, refused for no path %, refused otherwise %, no pair of numbers %\n")

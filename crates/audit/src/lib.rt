@@ -1,4 +1,4 @@
-// The audit of a log of transfers on a map: the log read line by line, and the text for each transfer, proved byte by byte.
+// The audit of a log of transfers on a map: what stands above it, the text for each line, and the totals, proved byte by byte.
 
 pub mod auditing;
 pub mod counting;

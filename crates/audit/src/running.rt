@@ -1,4 +1,4 @@
-// The little that is not proved: which bytes are read, and that the text of an audit is printed.
+// The little that is not proved: which bytes are read, and that the text of an audit is printed, here and line by line in `audit_log`.
 use crate::auditing::audit_log;
 use crate::counting::tell_totals;
 use crate::heading::top;

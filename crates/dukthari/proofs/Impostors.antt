@@ -13,8 +13,8 @@ use Rattle.answers.specs.Fields.{nodeFields, placeFields, stepFields}
 abbrev pub unlike : Sizes
 unlike = sizes 3 4 5
 
-abbrev pub P : Sizes
-P = sizes 5 5 1
+abbrev pub flat : Sizes
+flat = sizes 5 5 1
 
 abbrev pub node : Sizes → Place → List ℕ
 node S p = let r = nodeFields (numberAnswer S p) in r .refusal ∷ r .node ∷ []
@@ -26,20 +26,20 @@ abbrev pub step : Sizes → Place → ℕ → List ℕ
 step S p j = let r = stepFields (stepAnswer S p j) in r .refusal ∷ r .there ∷ r .x ∷ r .y ∷ r .z ∷ []
 
 -- a place, (2, 1) of map P, a place outside, and bad sizes with it
-pub numbers : node unlike (place 1 2 2) ∷ node P (place 2 1 0) ∷ node P (place 0 5 0) ∷ node (sizes 5 17 1) (place 0 17 0) ∷ []
+pub numbers : node unlike (place 1 2 2) ∷ node flat (place 2 1 0) ∷ node flat (place 0 5 0) ∷ node (sizes 5 17 1) (place 0 17 0) ∷ []
     ≡ (0 ∷ 31 ∷ []) ∷ (0 ∷ 7 ∷ []) ∷ (5 ∷ 0 ∷ []) ∷ (1 ∷ 0 ∷ []) ∷ []
 unfolding numberAnswer inRange inside
 numbers = refl
 
 -- a node, the last of map P, one past it, and bad sizes with it
-pub places : at unlike 31 ∷ at P 24 ∷ at P 25 ∷ at (sizes 5 5 0) 25 ∷ []
+pub places : at unlike 31 ∷ at flat 24 ∷ at flat 25 ∷ at (sizes 5 5 0) 25 ∷ []
     ≡ (0 ∷ 1 ∷ 2 ∷ 2 ∷ []) ∷ (0 ∷ 4 ∷ 4 ∷ 0 ∷ []) ∷ (5 ∷ 0 ∷ 0 ∷ 0 ∷ []) ∷ (1 ∷ 0 ∷ 0 ∷ 0 ∷ []) ∷ []
 unfolding placeAnswer inRange
 places = refl
 
 -- each of the six directions, the mesh's end, no direction, and bad sizes with it
 pub steps : step unlike (place 1 2 2) 0 ∷ step unlike (place 1 2 2) 1 ∷ step unlike (place 1 2 2) 2 ∷ step unlike (place 1 2 2) 3
-    ∷ step unlike (place 1 2 2) 4 ∷ step unlike (place 1 2 2) 5 ∷ step P (place 4 0 0) 0 ∷ step P (place 4 0 0) 6 ∷ step (sizes 1 5 1) (place 4 0 0) 6 ∷ []
+    ∷ step unlike (place 1 2 2) 4 ∷ step unlike (place 1 2 2) 5 ∷ step flat (place 4 0 0) 0 ∷ step flat (place 4 0 0) 6 ∷ step (sizes 1 5 1) (place 4 0 0) 6 ∷ []
     ≡ (0 ∷ 1 ∷ 2 ∷ 2 ∷ 2 ∷ []) ∷ (0 ∷ 1 ∷ 0 ∷ 2 ∷ 2 ∷ []) ∷ (0 ∷ 1 ∷ 1 ∷ 3 ∷ 2 ∷ []) ∷ (0 ∷ 1 ∷ 1 ∷ 1 ∷ 2 ∷ []) ∷ (0 ∷ 1 ∷ 1 ∷ 2 ∷ 3 ∷ [])
     ∷ (0 ∷ 1 ∷ 1 ∷ 2 ∷ 1 ∷ []) ∷ (0 ∷ 0 ∷ 0 ∷ 0 ∷ 0 ∷ []) ∷ (5 ∷ 0 ∷ 0 ∷ 0 ∷ 0 ∷ []) ∷ (1 ∷ 0 ∷ 0 ∷ 0 ∷ 0 ∷ []) ∷ []
 unfolding stepAnswer inRange inside next

@@ -9,14 +9,14 @@ use borrow.Author.Tests.{ltb-true, eqb-true}
 use lib.Dec.{ltb, leb, eqb}
 use lib.ListN.{length, length-take}
 use Rattle.mesh.specs.Tools.{between, bit, sum, count}
-use Rattle.mesh.specs.Mesh.{InRange, Inside, inRange, nodes, placeOf}
+use Rattle.mesh.specs.Mesh.{InRange, Inside, inRange, inside, nodes, number, placeOf}
 use Rattle.mesh.specs.Cells.{mapOf, cellAt, mayEnd, badCell, firstBad, stateLength}
 use Rattle.rules.specs.Marks.{isWord}
-use Rattle.mesh.specs.Answers.{refusalBad, answerBad, _andThen_, unless, numbered, answerValue, checkSizes, checkCells, checkMap, checkOrientation, checkNode, checkDirection, checkRoom, numberAnswer, placeAnswer, stepAnswer}
-use Rattle.mesh.proofs.Answers.{split, ok-of, sizes-granted, node-granted, map-granted}
-use Rattle.mesh.proofs.Granted.{number-fits, place-fits, step-fits}
+use Rattle.mesh.specs.Answers.{refusalBad, answerBad, _andThen_, unless, numbered, answerValue, checkSizes, checkCells, checkMap, checkOrientation, checkNode, checkPlace, checkDirection, checkRoom, numberAnswer, placeAnswer, stepAnswer}
+use Rattle.mesh.proofs.Answers.{split, ok-of, sizes-granted, place-granted, node-granted, map-granted}
+use Rattle.mesh.proofs.Granted.{place-inside, step-inside}
 use Rattle.mesh.proofs.Bits.{bit-le}
-use Rattle.mesh.proofs.Numbers.{nodes-le, place-in}
+use Rattle.mesh.proofs.Numbers.{nodes-le, number-lt, place-in}
 use Rattle.mesh.specs.declared.Sizes.{Sizes}
 use Rattle.mesh.specs.declared.Place.{Place}
 use Rattle.mesh.specs.declared.Refusal.{Refusal}
@@ -38,7 +38,7 @@ use Rattle.talk.specs.State.{mapIn, pair, says}
 use Rattle.talk.specs.Sound.{sound, within}
 use Rattle.talk.specs.Hear.{news, outstandingOn, outstanding}
 use Rattle.talk.specs.Entries.{checkState, freshAnswer, soundAnswer, outstandingAnswer, checkWord, hearAnswer}
-use Rattle.answers.specs.Fields.{NodeFits, PlaceFits, PlacedFits, SteppedFits, NumberedFits, VerdictFits, MapFits}
+use Rattle.answers.specs.Fields.{PlaceFits, PlacedFits, SteppedFits, NumberedFits, VerdictFits, MapFits}
 
 -- a check passes on the bad cell of the first refusal
 pub bad-then : (n : ℕ) (a b : Answer) → answerBad a ≤ n → (a ≡ Done → answerBad b ≤ n) → answerBad (a andThen b) ≤ n
@@ -88,14 +88,20 @@ sum-le (suc n) b f h = omega (arith, mul-suc b n, h n, sum-le n b f h)
 
 -- ---- the calls on places
 
-pub number-small : (S : Sizes) (p : Place) → NodeFits (numberAnswer S p)
-number-small S p n e = let (r, l) = number-fits S p n e in omega (arith, nodes-le S r)
+pub number-fits : (S : Sizes) (p : Place) → NumberedFits (numberAnswer S p)
+unfolding numberAnswer
+number-fits S p =
+    numbered-fits (checkSizes S andThen checkPlace S p) (number S p)
+    (bad-and (checkSizes S) (inside S p) BadNumber refl (bad-unless 65536 (inRange S) BadSizes refl))
+    (λ e.
+    let (s, i) = split (checkSizes S) (checkPlace S p) e in
+    omega (arith, number-lt S p (place-granted S p i), nodes-le S (sizes-granted S s)))
 
-pub place-small : (S : Sizes) (k : ℕ) → PlacedFits (placeAnswer S k)
-place-small S k p e = inside-fits S p (place-fits S k p e)
+pub place-fits : (S : Sizes) (k : ℕ) → PlacedFits (placeAnswer S k)
+place-fits S k p e = inside-fits S p (place-inside S k p e)
 
-pub step-small : (S : Sizes) (p : Place) (j : ℕ) → SteppedFits (stepAnswer S p j)
-step-small S p j q e = inside-fits S q (step-fits S p j q e)
+pub step-fits : (S : Sizes) (p : Place) (j : ℕ) → SteppedFits (stepAnswer S p j)
+step-fits S p j q e = inside-fits S q (step-inside S p j q e)
 
 -- ---- the calls on maps
 

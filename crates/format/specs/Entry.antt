@@ -5,8 +5,8 @@ use Prim.Native.Nat.{ℕ}
 use lib.ListN.{length, drop}
 use lib.Dec.{eqb, leb}
 use Rattle.mesh.specs.Tools.{between}
-use Rattle.mesh.specs.Mesh.{sizes, nodes}
-use Rattle.mesh.specs.Answers.{granted, numbered, refusalNo, refusalBad, _andThen_, unless, checkSizes, checkCells, checkMap, checkRoom}
+use Rattle.mesh.specs.Mesh.{nodes}
+use Rattle.mesh.specs.Answers.{granted, numbered, _andThen_, unless, checkSizes, checkCells, checkMap, checkRoom}
 use Rattle.mesh.specs.declared.Sizes.{Sizes}
 use Rattle.mesh.specs.declared.Refusal.the-variants.{BadFile}
 use Rattle.mesh.specs.declared.Answer.{Answer}
@@ -16,19 +16,7 @@ use Rattle.format.specs.Format.{trailerLength, fileLimit, distance, file
 use Rattle.format.specs.declared.MapRead.{MapRead}
 use Rattle.format.specs.declared.MapRead.the-variants.{Read, NotRead}
 
--- the number and the values of what reading answers: "A refusal returns its number and 0 for every value", except 4
-abbrev pub readNo : MapRead → ℕ
-readNo (Read S) = 0
-readNo (NotRead r) = refusalNo r
-
-abbrev pub readBad : MapRead → ℕ
-readBad (Read S) = 0
-readBad (NotRead r) = refusalBad r
-
-abbrev pub readSizes : MapRead → Sizes
-readSizes (Read S) = S
-readSizes (NotRead r) = sizes 0 0 0
-
+-- what reading answers: the sizes, or the refusal
 abbrev pub mapRead : Answer → Sizes → MapRead
 mapRead Done S = Read S
 mapRead (Refused r) S = NotRead r

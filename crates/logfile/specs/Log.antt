@@ -62,7 +62,7 @@ pairOf (Number s) (Number e) = Transfer s e
 pairOf (Number s) NoNumber = NoPair
 pairOf NoNumber e = NoPair
 
--- "`start end` to a line": two words, both numbers, and nothing after them but blanks and a comment; a line without a word says nothing
+-- `start end` to a line: two words, both numbers, and nothing after them but blanks and a comment; a line without a word says nothing
 abbrev pub entryBy : List ℕ → List ℕ → List ℕ → Entry
 entryBy first second rest =
     cond (eqb (length first) 0) Nothing

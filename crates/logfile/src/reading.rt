@@ -22,6 +22,7 @@ fn blank(b: u8) -> bool
     b == b'\r'
 }
 
+// Is the byte a digit?
 fn digit(b: u8) -> bool
     ensures { λ r. ⌜ r ≡ digit b ⌝ }
 {
@@ -54,14 +55,15 @@ fn before(stop: Stop, text: &[u8]) -> usize
     i
 }
 
-// These bytes, and those that follow them.
-pub fn up_to(stop: Stop, text: &[u8]) -> &[u8]
+// These bytes.
+fn up_to(stop: Stop, text: &[u8]) -> &[u8]
     ensures { λ r. ⌜ now r ≡ upTo stop (now (text .entry)) ⌝ }
 {
     let n = before(stop, text);
     &text[..n]
 }
 
+// The bytes from there on.
 fn past(stop: Stop, text: &[u8]) -> &[u8]
     ensures { λ r. ⌜ now r ≡ past stop (now (text .entry)) ⌝ }
 {

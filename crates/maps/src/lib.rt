@@ -11,7 +11,7 @@ ghost use Rattle.mesh.specs.Cells.{faultyCell, mayPass, mayEnd, badCell, firstB
 ghost use Rattle.mesh.specs.Answers.{checkMap};
 
 // The greatest byte that is a cell.
-pub const CELL_LIMIT: u8 = 1;
+const CELL_LIMIT: u8 = 1;
 
 // Does the node count as faulty?
 pub fn faulty_cell(cell: u8) -> bool

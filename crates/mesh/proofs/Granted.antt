@@ -1,13 +1,13 @@
--- What a granted answer shows of its value: a number is below N, a place is in the mesh. So every value fits. Assumes nothing.
+-- What a granted answer shows of its value: a place is in the mesh. Assumes nothing.
 use mathlib.Core.Path.{_≡_, refl, ap, subst}
 use mathlib.Core.Logic.{_↔_}
-use Prim.Native.Nat.{ℕ, _<_}
+use Prim.Native.Nat.{ℕ}
 use native.Mathlib.Omega.{arith}
-use Rattle.mesh.specs.Mesh.{InRange, Inside, nodes, number, placeOf}
+use Rattle.mesh.specs.Mesh.{InRange, Inside, placeOf}
 use Rattle.mesh.specs.Steps.{next}
-use Rattle.mesh.specs.Answers.{numbered, placed, stepped, _andThen_, checkSizes, checkNode, checkPlace, checkDirection, numberAnswer, placeAnswer, stepAnswer}
+use Rattle.mesh.specs.Answers.{numbered, placed, stepped, _andThen_, checkSizes, checkNode, checkPlace, checkDirection, placeAnswer, stepAnswer}
 use Rattle.mesh.proofs.Answers.{split, sizes-granted, place-granted, node-granted}
-use Rattle.mesh.proofs.Numbers.{number-lt, place-in}
+use Rattle.mesh.proofs.Numbers.{place-in}
 use Rattle.mesh.proofs.Steps.{next-in}
 use Rattle.mesh.specs.declared.Sizes.{Sizes}
 use Rattle.mesh.specs.declared.Place.{Place}
@@ -38,23 +38,16 @@ step-stands Done m n e = (refl, (cc))
 step-stands (Refused r) m n e = let z : _≡_ {A = ℕ} 0 1 = cc in absurd (omega arith)
 
 module _ (S : Sizes) where
-  pub number-fits : (p : Place) (n : ℕ) → numberAnswer S p ≡ Number n → InRange S × (n < nodes S)
-  unfolding numberAnswer
-  number-fits p n e =
-      let (a, v) = number-stands (checkSizes S andThen checkPlace S p) (number S p) n e in
-      let (s, i) = split (checkSizes S) (checkPlace S p) a in
-      (sizes-granted S s, subst (λ (k : ℕ). k < nodes S) v (number-lt S p (place-granted S p i)))
-
-  pub place-fits : (k : ℕ) (p : Place) → placeAnswer S k ≡ Found p → InRange S × Inside S p
+  pub place-inside : (k : ℕ) (p : Place) → placeAnswer S k ≡ Found p → InRange S × Inside S p
   unfolding placeAnswer
-  place-fits k p e =
+  place-inside k p e =
       let (a, v) = place-stands (checkSizes S andThen checkNode S k) (placeOf S k) p e in
       let (s, i) = split (checkSizes S) (checkNode S k) a in
       (sizes-granted S s, subst (Inside S) v (place-in S k (node-granted S k i)))
 
-  pub step-fits : (p : Place) (j : ℕ) (q : Place) → stepAnswer S p j ≡ Led (At q) → InRange S × Inside S q
+  pub step-inside : (p : Place) (j : ℕ) (q : Place) → stepAnswer S p j ≡ Led (At q) → InRange S × Inside S q
   unfolding stepAnswer
-  step-fits p j q e =
+  step-inside p j q e =
       let (a, v) = step-stands (checkSizes S andThen checkPlace S p andThen checkDirection j) (next S p j) (At q) e in
       let (b, _) = split (checkSizes S andThen checkPlace S p) (checkDirection j) a in
       let (s, i) = split (checkSizes S) (checkPlace S p) b in

@@ -34,11 +34,12 @@ stepOf j axis = getD (getD steps j []) axis (pos 0)
 abbrev pub opposite : ℕ → ℕ
 opposite j = j + 1 - 2 * (j % 2)
 
--- the coordinate c moved by s on an axis of n, or off the axis
+-- a coordinate, if an axis of n has it
 abbrev pub onAxis : ℕ → ℤ → Moved
 onAxis n (pos k) = cond (ltb k n) (To k) Off
 onAxis n (negsuc k) = Off
 
+-- the coordinate c moved by s on an axis of n, or off the axis
 abbrev pub moved : ℕ → ℤ → ℕ → Moved
 moved c s n = onAxis n (pos c +ℤ s)
 
@@ -58,11 +59,12 @@ abbrev pub isAt : Next → Bool
 isAt (At q) = true
 isAt Edge = false
 
--- the number of the neighbour of node k in direction j, where it exists
+-- the number of the place that a step leads to
 abbrev pub numberAt : Sizes → Next → ℕ
 numberAt S (At q) = number S q
 numberAt S Edge = 0
 
+-- the number of the neighbour of node k in direction j, where it exists
 abbrev pub neighbour : Sizes → ℕ → ℕ → ℕ
 neighbour S k j = numberAt S (next S (placeOf S k) j)
 

@@ -4,6 +4,7 @@ use audit::usage::usage;
 use text::running::open_named;
 use text::running::print_front;
 
+// Prints how to call the program.
 fn help() {
     let mut text = io::buffer();
     let n = usage(&mut text);
@@ -33,10 +34,7 @@ fn main() {
     for i in 1..n / 2 + n % 2 {
         audit_pair(2 * i - 1, 2 * i);
     }
-    if n % 2 == 0 {
-        help();
-    }
-    if n == 1 {
+    if n % 2 == 0 || n == 1 {
         help();
     }
 }

@@ -14,6 +14,7 @@ ghost use Rattle.mesh.specs.declared.Answer.the-variants.{Done};
 ghost use Rattle.touching.specs.Components.{howMany};
 ghost use Rattle.report.specs.Report.{figuresOf};
 
+// Room for the table of components.
 fn blank_table() -> [u16; 4096]
     ensures { λ r. ⌜ length r ≡ 4096 ⌝ }
 {

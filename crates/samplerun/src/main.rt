@@ -12,6 +12,7 @@ use text::running::print_front;
 use text::tell;
 use touching::Component;
 
+// An unsafe node.
 fn say_node(s: Sizes, k: usize, mark: u8, component: u16) {
     if let Placed::Found(p) = place_of(s, k) {
         let mut line = io::buffer();
@@ -25,6 +26,7 @@ fn say_node(s: Sizes, k: usize, mark: u8, component: u16) {
     }
 }
 
+// All unsafe nodes.
 fn say_nodes(s: Sizes, marked: &[u8], table: &[u16]) {
     for k in 0..marked.len() {
         if marked[k] != 0 && k < table.len() {
@@ -33,6 +35,7 @@ fn say_nodes(s: Sizes, marked: &[u8], table: &[u16]) {
     }
 }
 
+// A component.
 fn say_component(i: usize, c: Component) {
     let mut line = io::buffer();
     let n = tell(
@@ -53,6 +56,7 @@ fn say_component(i: usize, c: Component) {
     print_front(&line, n);
 }
 
+// The first components.
 fn say_components(records: [Component; 1024], count: usize) {
     for i in 0..1024 {
         if i < count {
@@ -61,6 +65,7 @@ fn say_components(records: [Component; 1024], count: usize) {
     }
 }
 
+// All of it.
 fn say_map(s: Sizes, cells: &[u8]) {
     let mut marked = io::buffer();
     let mut table = [0u16; 4096];

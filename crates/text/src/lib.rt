@@ -16,7 +16,7 @@ pub fn say(word: &[u8], out: &mut [u8], at: usize) -> usize
 }
 
 // Stores a number.
-pub fn say_number(n: usize, out: &mut [u8], at: usize) -> usize
+fn say_number(n: usize, out: &mut [u8], at: usize) -> usize
     requires { ⌜ at + 20 ≤ length (now out) ⌝ }
     ensures { λ r. ⌜ Said (now (out .entry)) at (decimal n) (now (out .exit)) r ⌝ }
 {

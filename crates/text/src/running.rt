@@ -1,4 +1,4 @@
-// What the programs share, and nothing proves more of than that it is safe: a file is read, a file is named, text is printed.
+// What the programs share, and nothing proves more of than that it is safe: room for a file, a file opened and named, text printed.
 use crate::name_line;
 ghost use mathlib.Core.Path.{_≡_};
 ghost use Prim.Native.Nat.{_≤_};

@@ -7,3 +7,4 @@ pub mod Extremes
 pub mod Records
 pub mod Counts
 pub mod Impostors
+pub mod Call

@@ -3,3 +3,4 @@ pub mod Touch
 pub mod Components
 pub mod Promise
 pub mod Entry
+pub mod Call

@@ -13,7 +13,7 @@ use Rattle.paths.specs.Offered.{offers, offered, reached}
 use Rattle.paths.specs.Entries.{checkEnds, verdictCheck, verdictAnswer}
 use Rattle.text.specs.Text.{ascii, decimalWithin, told, pieces}
 use Rattle.logfile.specs.Log.{linesOf}
-use Rattle.transfers.specs.Words.{reasons, refusalLine}
+use Rattle.transfers.specs.Words.{reasons, reasonLine}
 use Rattle.picture.specs.Picture.{toldWide, symbolOf, symbols, rowText, layerHead, layerText, wayText, endsText, picture}
 use Rattle.transfers.specs.Transfer.{refusedText, transferText}
 
@@ -28,6 +28,6 @@ pub case-4 : transferText (sizes 5 5 1) (replicate 7 0 ++ 1 ∷ 0 ∷ 0 ∷ 0 �
     ++ ascii "    y  3    .  .  .  .   nodes 16 to 19\n"
     ++ ascii "    y  4    .  .  .  E   nodes 21 to 24\n"
 unfolding any sum table inRange next faultyCell badCell mayPass mayEnd linked firstBad checkMap preferred hops mayEnter mayHop leadsWithin leads
-    offers offered reached checkEnds verdictCheck verdictAnswer decimalWithin told linesOf pieces toldWide reasons refusalLine symbolOf symbols
+    offers offered reached checkEnds verdictCheck verdictAnswer decimalWithin told linesOf pieces toldWide reasons reasonLine symbolOf symbols
     rowText layerHead layerText wayText endsText picture refusedText
 case-4 = refl

@@ -15,19 +15,19 @@ use Rattle.paths.specs.declared.Verdict.{Verdict}
 use Rattle.paths.specs.declared.Verdict.the-variants.{Granted, NotGranted}
 use Rattle.text.specs.Text.{ascii, told, pieces}
 use Rattle.picture.specs.Picture.{picture}
-use Rattle.transfers.specs.Words.{refusalLine}
+use Rattle.transfers.specs.Words.{reasonLine}
 
--- "granted with hops and the route"
+-- a transfer that is granted: its hops, and the nodes of its route
 unfoldable pub grantedText : ℕ → List ℕ → List ℕ
 grantedText h nodes =
     told (ascii ": granted, hops %, route") (h ∷ []) ++ pieces (λ i. told (ascii " %") (getD nodes i 0 ∷ [])) (h + 1) ++ ascii "\n"
 
--- "or the refusal with its reason in words; for `no path` then a picture"
+-- one that is refused: the reason in words, and where there is no path then a picture
 abbrev pub noPath : Refusal → Bool
 noPath r = eqb (refusalNo r) 10
 
 unfoldable pub refusedText : Sizes → List ℕ → ℕ → ℕ → Refusal → List ℕ
-refusedText S cells s e r = refusalLine (ascii ": refused ") r ++ cond (noPath r) (picture (mapOf S cells) s e) []
+refusedText S cells s e r = reasonLine (ascii ": refused ") r ++ cond (noPath r) (picture (mapOf S cells) s e) []
 
 abbrev pub verdictText : Sizes → List ℕ → ℕ → ℕ → Verdict → List ℕ
 verdictText S cells s e (Granted h o) = grantedText h (route (mapOf S cells) (placeOf S e) (placeOf S s))

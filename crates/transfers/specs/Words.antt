@@ -27,5 +27,5 @@ abbrev pub reason : Refusal → List ℕ
 reason r = getD (linesOf reasons) (refusalNo r) []
 
 -- a line that ends with a refusal in words
-unfoldable pub refusalLine : List ℕ → Refusal → List ℕ
-refusalLine word r = word ++ reason r ++ ascii "\n"
+unfoldable pub reasonLine : List ℕ → Refusal → List ℕ
+reasonLine word r = word ++ reason r ++ ascii "\n"

@@ -20,12 +20,12 @@ ghost use Rattle.paths.specs.Entries.{verdictCheck, verdictAnswer};
 ghost use Rattle.paths.specs.declared.Verdict.the-variants.{NotGranted};
 ghost use Rattle.text.specs.Text.{ascii, told, pieces, Said};
 ghost use Rattle.transfers.specs.Transfer.{grantedText, refusedText, transferText};
-ghost use Rattle.transfers.specs.Words.{refusalLine};
+ghost use Rattle.transfers.specs.Words.{reasonLine};
 
 // A line that ends with a refusal in words.
 pub fn say_refusal(word: &[u8], r: Refusal, out: &mut [u8], at: usize) -> usize
     requires { ⌜ at + (length (now word) + 349) ≤ length (now out) ⌝ }
-    ensures { λ n. ⌜ Said (now (out .entry)) at (refusalLine (now (word .entry)) r) (now (out .exit)) n
+    ensures { λ n. ⌜ Said (now (out .entry)) at (reasonLine (now (word .entry)) r) (now (out .exit)) n
         × (n ≤ at + (length (now (word .entry)) + 349)) ⌝ }
 {
     let reasons = b"0: granted

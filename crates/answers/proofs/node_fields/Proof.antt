@@ -1,11 +1,13 @@
 -- `answers::node_fields` meets its contract, case by case. Assumes nothing.
 use native.Mathlib.Omega.{arith}
+use mathlib.Core.Path.{subst}
+use Rattle.answers.specs.Fields.{NumberedFits}
 use borrow.Author.Needs.{needs}
 use Rattle.answers.proofs.node_fields.Statement.{statement}
 use Rattle.answers.proofs.node_fields.Tie as tie
 
 cast-node : tie.Need-cast-node
-cast-node c = omega (arith, c .before .before .before .pre _ (c .before .a .given .1))
+cast-node c = let h = subst NumberedFits (c .before .a .given .1) (c .before .before .before .pre) in omega arith
 
 returns : tie.Need-returns
 returns c = rw (c .before .a .given .1)

@@ -1,12 +1,12 @@
 -- `dukthari::dk_number` meets its contract: the answer is passed on, and its number fits. Assumes nothing.
 use mathlib.Core.Path.{_∙_}
-use Rattle.dukthari.proofs.Small.{number-small}
+use Rattle.dukthari.proofs.Small.{number-fits}
 use borrow.Author.Needs.{needs}
 use Rattle.dukthari.proofs.dk_number.Statement.{statement}
 use Rattle.dukthari.proofs.dk_number.Tie as tie
 
 node-fields-requires : tie.Need-node-fields-requires
-node-fields-requires c κs = rw (c .number-of .ensures, c .before .place-at .ensures, c .before .before .sizes-of .ensures) (number-small _ _)
+node-fields-requires c κs = rw (c .number-of .ensures, c .before .place-at .ensures, c .before .before .sizes-of .ensures) (number-fits _ _)
 
 returns : tie.Need-returns
 returns c =

@@ -44,9 +44,6 @@ loop-again c = omega arith
 help-requires : tie.Need-help-requires Inv-loop μ-loop
 help-requires c κs = search needs
 
-help-requires-2 : tie.Need-help-requires-2 Inv-loop μ-loop
-help-requires-2 c κs = search needs
-
 returns : tie.Need-returns Inv-loop μ-loop
 returns c = tt
 
@@ -70,6 +67,5 @@ main-spec =
     loop-less
     loop-again
     help-requires
-    help-requires-2
     returns
     returns-2)

@@ -8,7 +8,7 @@ use denote.Ref.{now}
 use lib.ListN.{length, getD}
 use Rattle.text.proofs.Saying.{said-as, said-exact, said-then}
 use Rattle.logfile.specs.Log.{linesOf}
-use Rattle.transfers.specs.Words.{reasons, reason, refusalLine}
+use Rattle.transfers.specs.Words.{reasons, reason, reasonLine}
 use Rattle.transfers.proofs.Reasons.{has-reason}
 use Rattle.transfers.proofs.say_refusal.Statement.{statement}
 use Rattle.transfers.proofs.say_refusal.Tie as tie
@@ -22,7 +22,7 @@ unfolding reasons
 reason-is c = c .line-of .ensures .0 ∙ ap (λ (n : ℕ). getD (linesOf reasons) n []) (c .before .number .ensures)
 
 returns : tie.Need-returns
-unfolding refusalLine
+unfolding reasonLine
 returns c =
     let feed = c .before .before in
     let why = feed .before .before .before .before .before in
