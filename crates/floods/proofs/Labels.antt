@@ -12,8 +12,8 @@ use lib.Seq.{getD-set-same, getD-set-other}
 use Rattle.mesh.specs.Tools.{bit, count}
 use Rattle.mesh.specs.Mesh.{Axis}
 use Rattle.mesh.proofs.Tests.{T-eq, bool-ext, tried}
-use Rattle.grids.specs.Grid.{gridSize, unseen, Spot, Beside, Linked, here, onward, howOften}
-use Rattle.floods.specs.Flood.{Flooded}
+use Rattle.grids.specs.Grid.{gridSize, unseen, Spot, Beside}
+use Rattle.floods.specs.Flood.{Linked, here, onward, howOften, Flooded}
 use Rattle.floods.specs.Label.{leastOf, greatestOf, Ranged, Spans, Recorded, Untouched, Labelled}
 use Rattle.touching.specs.declared.Component.{Component}
 use Rattle.grids.proofs.Around.{beside-sym}

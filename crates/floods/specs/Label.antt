@@ -6,7 +6,8 @@ use Prim.Native.Nat.{ℕ, suc, _-_, _/_, _%_, _<_, _≤_, min, max}
 use lib.ListN.{length, getD}
 use Rattle.mesh.specs.Mesh.{Axis, X, Y, Z, on}
 use Rattle.mesh.specs.declared.Place.{Place}
-use Rattle.grids.specs.Grid.{gridSize, unseen, placeAt, Spot, Beside, Linked, howOften}
+use Rattle.grids.specs.Grid.{gridSize, unseen, placeAt, Spot, Beside}
+use Rattle.floods.specs.Flood.{Linked, howOften}
 use Rattle.touching.specs.declared.Component.{Component}
 
 -- a record's least and greatest coordinate on an axis

@@ -3,8 +3,8 @@ use grids::UNSEEN;
 ghost use mathlib.Core.Path.{_≡_};
 ghost use Prim.Native.Nat.{ℕ, _+_, _<_};
 ghost use lib.ListN.{getD};
-ghost use Rattle.grids.specs.Grid.{gridSize, unseen, Spot, around, howOften};
-ghost use Rattle.floods.specs.Flood.{Sized, Visited, Spread, Flooded};
+ghost use Rattle.grids.specs.Grid.{gridSize, unseen, Spot, around};
+ghost use Rattle.floods.specs.Flood.{howOften, Sized, Visited, Spread, Flooded};
 
 // The steps to the eighteen touching places, each with 307 added. They are lent on: a constant that is indexed is laid out anew each time.
 pub fn steps_around() -> [usize; 18]
