@@ -14,7 +14,8 @@ use Rattle.mesh.specs.Mesh.{Axis}
 use Rattle.mesh.proofs.Tests.{T-eq, bool-ext, tried}
 use Rattle.grids.specs.Grid.{gridSize, unseen, Spot, Beside}
 use Rattle.floods.specs.Flood.{Linked, here, onward, howOften, Flooded}
-use Rattle.floods.specs.Label.{leastOf, greatestOf, Ranged, Spans, Recorded, Untouched, Labelled}
+use Rattle.touching.specs.Components.{leastOf, greatestOf}
+use Rattle.floods.specs.Label.{Ranged, Spans, Recorded, Untouched, Labelled}
 use Rattle.touching.specs.declared.Component.{Component}
 use Rattle.grids.proofs.Around.{beside-sym}
 use Rattle.touching.proofs.Counts.{sum-same, same-or-not}

@@ -6,7 +6,8 @@ ghost use Prim.Native.Nat.{ℕ, _<_, _≤_, min, max};
 ghost use lib.ListN.{length, getD};
 ghost use Rattle.mesh.specs.Mesh.{Axis};
 ghost use Rattle.grids.specs.Grid.{gridSize, placeAt, Spot};
-ghost use Rattle.floods.specs.Label.{leastOf, greatestOf, alone, widen, Ranged};
+ghost use Rattle.touching.specs.Components.{leastOf, greatestOf};
+ghost use Rattle.floods.specs.Label.{alone, widen, Ranged};
 
 // The place that lies at a spot of the grid.
 fn place_at(at: usize) -> Place
