@@ -14,9 +14,16 @@ ghost use Rattle.grids.specs.Layout.{RowOf, Laid, Copied};
 pub const UNSEEN: u16 = 65535;
 
 // Where a row of the mesh begins: its first node, and that node's place in the grid.
-pub struct Row {
-    pub node: usize,
-    pub spot: usize,
+struct Row {
+    node: usize,
+    spot: usize,
+}
+
+// An empty grid; the queue of the flood is as long.
+pub fn blank_grid() -> [u16; 5220]
+    ensures { λ r. ⌜ (length r ≡ gridSize) × ((j : ℕ) → getD r j 0 ≡ 0) ⌝ }
+{
+    [0; 5220]
 }
 
 // What a mark byte is in the grid.
@@ -46,6 +53,7 @@ fn lay_row(marks: &[u8], grid: &mut [u16], w: usize, k: usize, at: usize)
     }
 }
 
+// The rows of layer z go into the grid.
 fn lay_layer(s: Sizes, marks: &[u8], grid: &mut [u16], z: usize)
     requires { ⌜ InRange s × (z < s .d) × (length (now marks) ≡ nodes s) × Laid s (now marks) (307 + 289 * z) (now grid) ⌝ }
     ensures { λ _. ⌜ Laid s (now (marks .entry)) (307 + 289 * (z + 1)) (now (grid .exit)) ⌝ }
@@ -78,6 +86,7 @@ fn copy_row(grid: &[u16], table: &mut [u16], w: usize, k: usize, at: usize)
     }
 }
 
+// The rows of layer z go into the table.
 fn copy_layer(s: Sizes, grid: &[u16], table: &mut [u16], z: usize)
     requires { ⌜ InRange s × (z < s .d) × (length (now grid) ≡ gridSize) × (nodes s ≤ length (now table)) ⌝ }
     ensures { λ _. ⌜ ((old : List ℕ) → Copied s (now (grid .entry)) old (s .w * (s .h * z)) (now (table .entry))

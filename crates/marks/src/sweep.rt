@@ -18,6 +18,13 @@ ghost use Rattle.mesh.specs.Fill.{Filled};
 ghost use Rattle.layers.specs.Sweep.{Swept, Stretch, Room};
 ghost use Rattle.marks.specs.Clear.{inner, Apart};
 
+// A byte for each node of the largest mesh.
+pub fn blank_marks() -> [u8; 4096]
+    ensures { λ r. ⌜ length r ≡ 4096 ⌝ }
+{
+    [0; 4096]
+}
+
 // Each node's byte: 1 where it is faulty, else 0.
 fn lay(cells: &[u8], out: &mut [u8], n: usize)
     requires { ⌜ (n ≤ length (now cells)) × (n ≤ length (now out)) ⌝ }

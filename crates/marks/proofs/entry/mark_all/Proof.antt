@@ -17,7 +17,7 @@ sweep-requires-2 c κs =
     record {
       sized = r .sized;
       cells-long = r .cells-long;
-      out-long = omega (arith, c .before .before .before .before .before .blank .ensures, nodes-le (s .args .s) (r .sized));
+      out-long = omega (arith, c .before .before .before .before .before .blank-marks .ensures, nodes-le (s .args .s) (r .sized));
     }
 
 join-requires : tie.Need-join-requires
@@ -31,7 +31,7 @@ join-requires c κs =
     rw n (
       omega (arith, r .cells-long),
       swept-bytes _ _ _ (g .sweep2 .last .1 .1 .0) (g .sweep2 .ensures)
-          (omega (arith, f .before .before .blank .ensures, g .sweep2 .kept .1 .1 .0, nodes-le (a .s) (r .sized))),
+          (omega (arith, f .before .before .blank-marks .ensures, g .sweep2 .kept .1 .1 .0, nodes-le (a .s) (r .sized))),
       swept-bytes _ _ _ (f .sweep .last .1 .1 .0) (f .sweep .ensures) (omega (arith, r .out-long, f .sweep .kept .1 .1 .0)),
     )
 
