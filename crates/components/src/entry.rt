@@ -18,7 +18,7 @@ ghost use Rattle.mesh.specs.declared.Answer.the-variants.{Done};
 ghost use Rattle.mesh.specs.Answers.{answerValue};
 ghost use Rattle.marks.specs.Entry.{marksAnswer};
 ghost use Rattle.grids.specs.Grid.{gridSize};
-ghost use Rattle.components.specs.Outcome.{Gridded, Settled, storedOf, Computed};
+ghost use Rattle.components.specs.Outcome.{Gridded, Answered, storedOf, Computed};
 
 // The grid of a map, in an empty one: refusals 1, 2, 4 and 5. On a refusal it stays empty.
 fn grid_of(s: Sizes, cells: &[u8], orientation: usize, grid: &mut [u16]) -> Answer
@@ -55,7 +55,7 @@ fn settle(
     room: usize,
 ) -> Numbered
     requires { ⌜ (checked ≡ Done → InRange s) × (length (now grid) ≡ gridSize) ⌝ }
-    ensures { λ r. ⌜ Settled s checked (now (grid .entry)) count room (now (table .entry)) (now (table .exit)) r ⌝ }
+    ensures { λ r. ⌜ Answered s checked (now (grid .entry)) count room (now (table .entry)) (now (table .exit)) r ⌝ }
 {
     if let Answer::Refused(r) = checked {
         return Numbered::NotNumbered(r);
