@@ -1,7 +1,8 @@
 // One component at a time gets its number, by a queue of the places that have it.
+use grids::FIRST;
 use grids::UNSEEN;
 ghost use mathlib.Core.Path.{_≡_};
-ghost use Prim.Native.Nat.{ℕ, _+_, _<_};
+ghost use Prim.Native.Nat.{ℕ, _<_};
 ghost use lib.ListN.{getD};
 ghost use Rattle.grids.specs.Grid.{gridSize, unseen, Spot, around};
 ghost use Rattle.floods.specs.Flood.{howOften, Sized, Visited, Spread, Flooded};
@@ -57,7 +58,7 @@ fn spread(
     requires { ⌜ Sized (now grid) (now queue) × Spot from × (number < unseen) × (howOften (now grid) number ≡ tail) × (now steps ≡ around) ⌝ }
     ensures { λ r. ⌜ Spread (now (grid .entry)) (now (queue .entry)) tail from number 18 (now (grid .exit)) (now (queue .exit)) r ⌝ }
 {
-    let base = from - 307;
+    let base = from - FIRST;
     let mut end = tail;
     for o in 0..18 {
         end = visit(grid, queue, end, base + steps[o], number);

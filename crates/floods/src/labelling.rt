@@ -3,11 +3,14 @@ use crate::Found;
 use crate::flood::flood;
 use crate::flood::steps_around;
 use crate::recording::record_of;
+use grids::FIRST;
+use grids::LAYER;
+use grids::ROW;
 use grids::UNSEEN;
 use grids::blank_grid;
 use touching::Component;
 ghost use mathlib.Core.Path.{_≡_};
-ghost use Prim.Native.Nat.{_+_, _<_, _≤_};
+ghost use Prim.Native.Nat.{_<_, _≤_};
 ghost use lib.ListN.{length};
 ghost use Rattle.grids.specs.Grid.{gridSize};
 ghost use Rattle.floods.specs.Label.{Untouched, Within, Labelled};
@@ -38,8 +41,8 @@ pub fn label(grid: &mut [u16], h: usize, d: usize) -> Found
     let mut records = blank_records();
     let mut n = 0;
     for z in 0..d {
-        let from = 307 + 289 * z;
-        for at in from..from + 17 * h {
+        let from = FIRST + LAYER * z;
+        for at in from..from + ROW * h {
             if grid[at] != UNSEEN {
                 continue;
             }

@@ -1,4 +1,7 @@
 // The record of a component, from the queue that holds its places.
+use grids::FIRST;
+use grids::LAYER;
+use grids::ROW;
 use mesh::Place;
 use touching::Component;
 ghost use mathlib.Core.Path.{_≡_};
@@ -14,11 +17,11 @@ fn place_at(at: usize) -> Place
     requires { ⌜ Spot at ⌝ }
     ensures { λ r. ⌜ (r ≡ placeAt at) × (r .x < 16) × (r .y < 16) × (r .z < 16) ⌝ }
 {
-    let k = at - 307;
+    let k = at - FIRST;
     Place {
-        x: k % 17,
-        y: k / 17 % 17,
-        z: k / 289,
+        x: k % ROW,
+        y: k / ROW % ROW,
+        z: k / LAYER,
     }
 }
 

@@ -11,7 +11,7 @@ use Rattle.mesh.specs.Mesh.{place, inside, number}
 use Rattle.mesh.specs.declared.Sizes.{Sizes}
 use Rattle.mesh.specs.declared.Place.{Place}
 
--- how many places the grid has: 16 × 289 of them for the layers, and room for the last steps
+-- how many places the grid has: 307 before the mesh, and 17 layers of 289. The last spot is 4912, and a step leads at most 306 further.
 abbrev pub gridSize : ℕ
 gridSize = 5220
 
