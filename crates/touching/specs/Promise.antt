@@ -33,7 +33,7 @@ pub record Numbers (S : Sizes) (marks : List ℕ) (n : ℕ) (table : List ℕ) :
   -- "by their lowest node number"
   pub rising : (a b : ℕ) → Lowest S marks a → Lowest S marks b → a < b → getD table a 0 < getD table b 0
 
--- lo and hi are the least and the greatest f of some numbers
+-- lo and hi are the least and the greatest f of the numbers that `Has` is true of
 pub record Bounds (Has : ℕ → Type 0) (f : ℕ → ℕ) (lo hi : ℕ) : Type 0 where
   pub within : (a : ℕ) → Has a → (lo ≤ f a) × (f a ≤ hi)
   pub at-lo : (a : ℕ) × Has a × (f a ≡ lo)
