@@ -18,7 +18,8 @@ use Rattle.mesh.specs.declared.Place.{Place}
 use Rattle.touching.specs.Touch.{unsafe, Joined, itself, further}
 use Rattle.touching.specs.Components.{coordinate, tableOf, recordsOf, howMany}
 use Rattle.touching.specs.Promise.{Lowest, Numbers, Extent, Records, Promise}
-use Rattle.grids.specs.Grid.{gridSize, unseen, placeAt, gridAt, Beside, Linked, here, onward, howOften}
+use Rattle.grids.specs.Grid.{gridSize, unseen, placeAt, gridAt, Beside}
+use Rattle.floods.specs.Flood.{Linked, here, onward, howOften}
 use Rattle.floods.specs.Label.{Spans, Recorded, Labelled}
 use Rattle.touching.specs.declared.Component.{Component}
 use Rattle.touching.proofs.Joined.{joined-trans, joined-sym, end-unsafe}

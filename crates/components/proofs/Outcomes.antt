@@ -3,7 +3,7 @@ use mathlib.Core.Path.{_≡_, refl, sym, ap, _∙_}
 use mathlib.Core.Logic.{inl}
 use mathlib.Core.Bool.{true}
 use mathlib.Core.List.{List, [], _++_}
-use Prim.Native.Nat.{ℕ, _+_, _-_, _≤_, _<_}
+use Prim.Native.Nat.{ℕ, _≤_, _<_}
 use native.Mathlib.Omega.{arith}
 use borrow.Author.Tests.{le-leb}
 use lib.Dec.{T, leb}
@@ -30,7 +30,7 @@ use Rattle.touching.specs.Entry.{componentsCheck, componentsAnswer, componentsT
 use Rattle.grids.specs.Grid.{gridSize, spot, gridAt}
 use Rattle.grids.specs.Layout.{Copied}
 use Rattle.floods.specs.Label.{Untouched, Within, Labelled}
-use Rattle.components.specs.Outcome.{Gridded, roomCheck, Settled, storedOf, Computed}
+use Rattle.components.specs.Outcome.{Gridded, roomCheck, Answered, storedOf, Computed}
 use Rattle.touching.specs.declared.Component.{Component}
 use Rattle.components.specs.declared.Outcome.{Outcome}
 use Rattle.components.proofs.Spots.{untouched, within}
@@ -125,18 +125,18 @@ module _ (S : Sizes) (cells : List ℕ) (o : ℕ) (old : List ℕ) (room : ℕ) 
 
 -- ---- the room, when the components have been counted
 
-pub settled-refused : (S : Sizes) (checked : Answer) (g : List ℕ) (count room : ℕ) (old : List ℕ) (r : Refusal)
-    → roomCheck S checked count (length old) room ≡ Refused r → Settled S checked g count room old old (NotNumbered r)
-settled-refused S checked g count room old r e =
+pub answered-refused : (S : Sizes) (checked : Answer) (g : List ℕ) (count room : ℕ) (old : List ℕ) (r : Refusal)
+    → roomCheck S checked count (length old) room ≡ Refused r → Answered S checked g count room old old (NotNumbered r)
+answered-refused S checked g count room old r e =
     record {
       answer = rw e;
       copied = λ d. let z : _≡_ {A = ℕ} 0 1 = cc (e, d) in absurd (omega arith);
       kept = λ x q. refl;
     }
 
-pub settled-granted : (S : Sizes) (checked : Answer) (g : List ℕ) (count room : ℕ) (old new : List ℕ)
-    → roomCheck S checked count (length old) room ≡ Done → Copied S g old (nodes S) new → Settled S checked g count room old new (Number count)
-settled-granted S checked g count room old new e C =
+pub answered-granted : (S : Sizes) (checked : Answer) (g : List ℕ) (count room : ℕ) (old new : List ℕ)
+    → roomCheck S checked count (length old) room ≡ Done → Copied S g old (nodes S) new → Answered S checked g count room old new (Number count)
+answered-granted S checked g count room old new e C =
     record {
       answer = rw e;
       copied = λ d. C;
@@ -158,7 +158,7 @@ module _ (S : Sizes) (cells : List ℕ) (o : ℕ) where
 
   pub all-computed : (room : ℕ) (old new : List ℕ) (a : Answer) → marksAnswer S cells o 4096 ≡ a → (g h : List ℕ) (n : ℕ) (row : List Component)
       → Gridded S cells o a g → Labelled g gridSize n h row → length row ≡ 1024 → n ≤ 1024
-      → (r : Numbered) (k : ℕ) → Settled S a h n room old new r → k ≡ storedOf r
+      → (r : Numbered) (k : ℕ) → Answered S a h n room old new r → k ≡ storedOf r
       → Computed S cells o room old new (record { answer = r; count = k; records = row })
   all-computed room old new (Refused x) e g h n row is L long few r k T stored =
       let q : r ≡ NotNumbered x = T .answer in

@@ -28,7 +28,7 @@ abbrev pub roomCheck : Sizes → Answer → ℕ → ℕ → ℕ → Answer
 roomCheck S checked count tableRoom rowRoom = checked andThen checkRoom (nodes S) tableRoom andThen checkRoom count rowRoom
 
 -- the answer, and the table: the grid's numbers, or as it was on a refusal
-pub record Settled (S : Sizes) (checked : Answer) (g : List ℕ) (count room : ℕ) (old new : List ℕ) (r : Numbered) : Type 0 where
+pub record Answered (S : Sizes) (checked : Answer) (g : List ℕ) (count room : ℕ) (old new : List ℕ) (r : Numbered) : Type 0 where
   pub answer : r ≡ numbered (roomCheck S checked count (length old) room) count
   pub copied : roomCheck S checked count (length old) room ≡ Done → Copied S g old (nodes S) new
   pub kept : (x : Refusal) → roomCheck S checked count (length old) room ≡ Refused x → new ≡ old

@@ -1,9 +1,11 @@
 // The call for the components of a map. It takes every input.
 use crate::Outcome;
 use floods::labelling::label;
+use grids::blank_grid;
 use grids::copy_out;
 use grids::lay;
 use marks::entry::marks;
+use marks::sweep::blank_marks;
 use mesh::Answer;
 use mesh::Numbered;
 use mesh::Refusal;
@@ -16,19 +18,7 @@ ghost use Rattle.mesh.specs.declared.Answer.the-variants.{Done};
 ghost use Rattle.mesh.specs.Answers.{answerValue};
 ghost use Rattle.marks.specs.Entry.{marksAnswer};
 ghost use Rattle.grids.specs.Grid.{gridSize};
-ghost use Rattle.components.specs.Outcome.{Gridded, Settled, storedOf, Computed};
-
-fn blank_marks() -> [u8; 4096]
-    ensures { λ r. ⌜ length r ≡ 4096 ⌝ }
-{
-    [0; 4096]
-}
-
-fn blank_grid() -> [u16; 5220]
-    ensures { λ r. ⌜ (length r ≡ gridSize) × ((j : ℕ) → getD r j 0 ≡ 0) ⌝ }
-{
-    [0; 5220]
-}
+ghost use Rattle.components.specs.Outcome.{Gridded, Answered, storedOf, Computed};
 
 // The grid of a map, in an empty one: refusals 1, 2, 4 and 5. On a refusal it stays empty.
 fn grid_of(s: Sizes, cells: &[u8], orientation: usize, grid: &mut [u16]) -> Answer
@@ -65,7 +55,7 @@ fn settle(
     room: usize,
 ) -> Numbered
     requires { ⌜ (checked ≡ Done → InRange s) × (length (now grid) ≡ gridSize) ⌝ }
-    ensures { λ r. ⌜ Settled s checked (now (grid .entry)) count room (now (table .entry)) (now (table .exit)) r ⌝ }
+    ensures { λ r. ⌜ Answered s checked (now (grid .entry)) count room (now (table .entry)) (now (table .exit)) r ⌝ }
 {
     if let Answer::Refused(r) = checked {
         return Numbered::NotNumbered(r);

@@ -12,7 +12,8 @@ use Rattle.mesh.specs.Mesh.{Axis, X, Y, Z, on}
 use Rattle.mesh.proofs.Tests.{tried}
 use Rattle.mesh.specs.declared.Place.{Place}
 use Rattle.grids.specs.Grid.{placeAt}
-use Rattle.floods.specs.Label.{leastOf, greatestOf, alone, widen, Ranged}
+use Rattle.touching.specs.Components.{leastOf, greatestOf}
+use Rattle.floods.specs.Label.{alone, widen, Ranged}
 use Rattle.touching.specs.declared.Component.{Component}
 
 module _ (q : List ℕ) (axis : Axis) where

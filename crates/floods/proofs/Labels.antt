@@ -12,9 +12,10 @@ use lib.Seq.{getD-set-same, getD-set-other}
 use Rattle.mesh.specs.Tools.{bit, count}
 use Rattle.mesh.specs.Mesh.{Axis}
 use Rattle.mesh.proofs.Tests.{T-eq, bool-ext, tried}
-use Rattle.grids.specs.Grid.{gridSize, unseen, Spot, Beside, Linked, here, onward, howOften}
-use Rattle.floods.specs.Flood.{Flooded}
-use Rattle.floods.specs.Label.{leastOf, greatestOf, Ranged, Spans, Recorded, Untouched, Labelled}
+use Rattle.grids.specs.Grid.{gridSize, unseen, Spot, Beside}
+use Rattle.floods.specs.Flood.{Linked, here, onward, howOften, Flooded}
+use Rattle.touching.specs.Components.{leastOf, greatestOf}
+use Rattle.floods.specs.Label.{Ranged, Spans, Recorded, Untouched, Labelled}
 use Rattle.touching.specs.declared.Component.{Component}
 use Rattle.grids.proofs.Around.{beside-sym}
 use Rattle.touching.proofs.Counts.{sum-same, same-or-not}

@@ -12,8 +12,8 @@ use lib.Seq.{getD-set-same, getD-set-other}
 use borrow.Author.Tests.{eq-eqb, ne-eqb}
 use Rattle.mesh.specs.Tools.{bit, count}
 use Rattle.mesh.proofs.Tables.{sum-zero}
-use Rattle.grids.specs.Grid.{gridSize, unseen, around, Beside, Linked, here, onward, howOften}
-use Rattle.floods.specs.Flood.{Sized, Visited, entered, passed, Part, Spread, Flooded}
+use Rattle.grids.specs.Grid.{gridSize, unseen, around, Beside}
+use Rattle.floods.specs.Flood.{Linked, here, onward, howOften, Sized, Visited, entered, passed, Part, Spread, Flooded}
 use Rattle.touching.proofs.Counts.{same-or-not, sum-raise, count-le}
 
 -- ---- how often a number stands in a list

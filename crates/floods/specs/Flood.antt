@@ -4,7 +4,18 @@ use mathlib.Core.Logic.{_⊎_}
 use mathlib.Core.Path.{_≡_}
 use Prim.Native.Nat.{ℕ, _+_, _<_, _≤_}
 use lib.ListN.{length, getD, set}
-use Rattle.grids.specs.Grid.{gridSize, unseen, around, Beside, Linked, howOften}
+use lib.Dec.{eqb}
+use Rattle.mesh.specs.Tools.{count}
+use Rattle.grids.specs.Grid.{gridSize, unseen, around, Beside}
+
+-- b is reached from a by steps to touching places, each to an unseen one
+pub data Linked (g : List ℕ) (a : ℕ) : ℕ → Type 0 where
+  here : Linked g a a
+  onward : {b c : ℕ} → Linked g a b → Beside b c → getD g c 0 ≡ unseen → Linked g a c
+
+-- how many places hold v
+abbrev pub howOften : List ℕ → ℕ → ℕ
+howOften g v = count (length g) λ j. eqb (getD g j 0) v
 
 -- grid and queue have their size
 pub record Sized (g q : List ℕ) : Type 0 where

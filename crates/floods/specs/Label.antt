@@ -4,21 +4,13 @@ use mathlib.Core.Logic.{_⊎_}
 use mathlib.Core.Path.{_≡_}
 use Prim.Native.Nat.{ℕ, suc, _-_, _/_, _%_, _<_, _≤_, min, max}
 use lib.ListN.{length, getD}
-use Rattle.mesh.specs.Mesh.{Axis, X, Y, Z, on}
+use Rattle.mesh.specs.Mesh.{Axis, on}
 use Rattle.mesh.specs.declared.Place.{Place}
-use Rattle.grids.specs.Grid.{gridSize, unseen, placeAt, Spot, Beside, Linked, howOften}
+use Rattle.grids.specs.Grid.{gridSize, unseen, placeAt, Spot, Beside}
+use Rattle.floods.specs.Flood.{Linked, howOften}
+use Rattle.touching.specs.Components.{leastOf, greatestOf}
+use Rattle.touching.specs.Promise.{Bounds}
 use Rattle.touching.specs.declared.Component.{Component}
-
--- a record's least and greatest coordinate on an axis
-abbrev pub leastOf : Component → Axis → ℕ
-leastOf c X = c .x0
-leastOf c Y = c .y0
-leastOf c Z = c .z0
-
-abbrev pub greatestOf : Component → Axis → ℕ
-greatestOf c X = c .x1
-greatestOf c Y = c .y1
-greatestOf c Z = c .z1
 
 -- the record of n nodes that lie all at p, and a record widened to a place
 abbrev pub alone : Place → ℕ → Component
@@ -36,17 +28,12 @@ widen c p =
       z1 = max (c .z1) (p .z);
     }
 
--- the first n places of the queue lie within lo and hi on an axis, and reach both
-pub record Ranged (q : List ℕ) (n : ℕ) (axis : Axis) (lo hi : ℕ) : Type 0 where
-  pub within : (t : ℕ) → t < n → (lo ≤ on (placeAt (getD q t 0)) axis) × (on (placeAt (getD q t 0)) axis ≤ hi)
-  pub at-lo : (t : ℕ) × (t < n) × (on (placeAt (getD q t 0)) axis ≡ lo)
-  pub at-hi : (t : ℕ) × (t < n) × (on (placeAt (getD q t 0)) axis ≡ hi)
+-- the least and the greatest coordinate on an axis: of the first n places of the queue, and of the places that hold the number m
+abbrev pub Ranged : List ℕ → ℕ → Axis → ℕ → ℕ → Type 0
+Ranged q n axis lo hi = Bounds (λ t. t < n) (λ t. on (placeAt (getD q t 0)) axis) lo hi
 
--- the same of the places that hold the number m
-pub record Spans (h : List ℕ) (m : ℕ) (axis : Axis) (lo hi : ℕ) : Type 0 where
-  pub within : (j : ℕ) → getD h j 0 ≡ m → (lo ≤ on (placeAt j) axis) × (on (placeAt j) axis ≤ hi)
-  pub at-lo : (j : ℕ) × (getD h j 0 ≡ m) × (on (placeAt j) axis ≡ lo)
-  pub at-hi : (j : ℕ) × (getD h j 0 ≡ m) × (on (placeAt j) axis ≡ hi)
+abbrev pub Spans : List ℕ → ℕ → Axis → ℕ → ℕ → Type 0
+Spans h m axis lo hi = Bounds (λ j. getD h j 0 ≡ m) (λ j. on (placeAt j) axis) lo hi
 
 -- c is the record of the component with number m
 pub record Recorded (h : List ℕ) (m : ℕ) (c : Component) : Type 0 where

@@ -1,10 +1,11 @@
 // One component at a time gets its number, by a queue of the places that have it.
+use grids::FIRST;
 use grids::UNSEEN;
 ghost use mathlib.Core.Path.{_≡_};
-ghost use Prim.Native.Nat.{ℕ, _+_, _<_};
+ghost use Prim.Native.Nat.{ℕ, _<_};
 ghost use lib.ListN.{getD};
-ghost use Rattle.grids.specs.Grid.{gridSize, unseen, Spot, around, howOften};
-ghost use Rattle.floods.specs.Flood.{Sized, Visited, Spread, Flooded};
+ghost use Rattle.grids.specs.Grid.{gridSize, unseen, Spot, around};
+ghost use Rattle.floods.specs.Flood.{howOften, Sized, Visited, Spread, Flooded};
 
 // The steps to the eighteen touching places, each with 307 added. They are lent on: a constant that is indexed is laid out anew each time.
 pub fn steps_around() -> [usize; 18]
@@ -57,7 +58,7 @@ fn spread(
     requires { ⌜ Sized (now grid) (now queue) × Spot from × (number < unseen) × (howOften (now grid) number ≡ tail) × (now steps ≡ around) ⌝ }
     ensures { λ r. ⌜ Spread (now (grid .entry)) (now (queue .entry)) tail from number 18 (now (grid .exit)) (now (queue .exit)) r ⌝ }
 {
-    let base = from - 307;
+    let base = from - FIRST;
     let mut end = tail;
     for o in 0..18 {
         end = visit(grid, queue, end, base + steps[o], number);

@@ -3,21 +3,20 @@ use crate::Found;
 use crate::flood::flood;
 use crate::flood::steps_around;
 use crate::recording::record_of;
+use grids::FIRST;
+use grids::LAYER;
+use grids::ROW;
 use grids::UNSEEN;
+use grids::blank_grid;
 use touching::Component;
 ghost use mathlib.Core.Path.{_≡_};
-ghost use Prim.Native.Nat.{_+_, _<_, _≤_};
+ghost use Prim.Native.Nat.{_<_, _≤_};
 ghost use lib.ListN.{length};
 ghost use Rattle.grids.specs.Grid.{gridSize};
 ghost use Rattle.floods.specs.Label.{Untouched, Within, Labelled};
 
-pub fn blank_queue() -> [u16; 5220]
-    ensures { λ r. ⌜ length r ≡ gridSize ⌝ }
-{
-    [0; 5220]
-}
-
-pub fn blank_records() -> [Component; 1024]
+// Room for the records of as many components as a mesh can have.
+fn blank_records() -> [Component; 1024]
     ensures { λ r. ⌜ length r ≡ 1024 ⌝ }
 {
     [Component {
@@ -38,12 +37,12 @@ pub fn label(grid: &mut [u16], h: usize, d: usize) -> Found
         × (length (r .records) ≡ 1024) × (r .count ≤ 1024) ⌝ }
 {
     let steps = steps_around();
-    let mut queue = blank_queue();
+    let mut queue = blank_grid();
     let mut records = blank_records();
     let mut n = 0;
     for z in 0..d {
-        let from = 307 + 289 * z;
-        for at in from..from + 17 * h {
+        let from = FIRST + LAYER * z;
+        for at in from..from + ROW * h {
             if grid[at] != UNSEEN {
                 continue;
             }

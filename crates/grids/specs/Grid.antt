@@ -5,14 +5,13 @@ use mathlib.Core.Bool.{cond, _&&_}
 use mathlib.Core.List.{List, [], _∷_}
 use mathlib.Core.Path.{_≡_}
 use Prim.Native.Nat.{ℕ, _+_, _-_, _*_, _/_, _%_, _<_, _≤_}
-use lib.ListN.{length, getD}
+use lib.ListN.{getD}
 use lib.Dec.{leb, eqb}
-use Rattle.mesh.specs.Tools.{count}
 use Rattle.mesh.specs.Mesh.{place, inside, number}
 use Rattle.mesh.specs.declared.Sizes.{Sizes}
 use Rattle.mesh.specs.declared.Place.{Place}
 
--- how many places the grid has: 16 × 289 of them for the layers, and room for the last steps
+-- how many places the grid has: 307 before the mesh, and 17 layers of 289. The last spot is 4912, and a step leads at most 306 further.
 abbrev pub gridSize : ℕ
 gridSize = 5220
 
@@ -49,12 +48,3 @@ around =
 -- j is one of those steps from i
 abbrev pub Beside : ℕ → ℕ → Type 0
 Beside i j = (o : ℕ) × (o < 18) × (j + 307 ≡ i + getD around o 0)
-
--- b is reached from a by such steps, each to an unseen place
-pub data Linked (g : List ℕ) (a : ℕ) : ℕ → Type 0 where
-  here : Linked g a a
-  onward : {b c : ℕ} → Linked g a b → Beside b c → getD g c 0 ≡ unseen → Linked g a c
-
--- how many places hold v
-abbrev pub howOften : List ℕ → ℕ → ℕ
-howOften g v = count (length g) λ j. eqb (getD g j 0) v

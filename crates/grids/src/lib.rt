@@ -13,10 +13,29 @@ ghost use Rattle.grids.specs.Layout.{RowOf, Laid, Copied};
 // What the grid holds at an unsafe node that has no number yet.
 pub const UNSEEN: u16 = 65535;
 
+// The places of a row: one more than a mesh can have, so that beyond its edge there is an empty one.
+pub const ROW: usize = 17;
+
+// The places of a layer: 17 rows, one more than a mesh can have.
+pub const LAYER: usize = 289;
+
+// Where the mesh begins: a step back on each axis leads from there to place 0.
+pub const FIRST: usize = 307;
+
+// The places of the grid: those before the mesh, and 17 layers. The last spot is 4912, and a step leads at most 306 further.
+pub const SIZE: usize = 5220;
+
 // Where a row of the mesh begins: its first node, and that node's place in the grid.
-pub struct Row {
-    pub node: usize,
-    pub spot: usize,
+struct Row {
+    node: usize,
+    spot: usize,
+}
+
+// An empty grid; the queue of the flood is as long.
+pub fn blank_grid() -> [u16; SIZE]
+    ensures { λ r. ⌜ (length r ≡ gridSize) × ((j : ℕ) → getD r j 0 ≡ 0) ⌝ }
+{
+    [0; SIZE]
 }
 
 // What a mark byte is in the grid.
@@ -32,7 +51,7 @@ fn row_of(s: Sizes, y: usize, z: usize) -> Row
     ensures { λ r. ⌜ RowOf s y z (r .node) (r .spot) ⌝ }
 {
     let node = s.number(Place { x: 0, y, z });
-    let spot = 307 + (17 * y + 289 * z);
+    let spot = FIRST + (ROW * y + LAYER * z);
     Row { node, spot }
 }
 
@@ -46,6 +65,7 @@ fn lay_row(marks: &[u8], grid: &mut [u16], w: usize, k: usize, at: usize)
     }
 }
 
+// The rows of layer z go into the grid.
 fn lay_layer(s: Sizes, marks: &[u8], grid: &mut [u16], z: usize)
     requires { ⌜ InRange s × (z < s .d) × (length (now marks) ≡ nodes s) × Laid s (now marks) (307 + 289 * z) (now grid) ⌝ }
     ensures { λ _. ⌜ Laid s (now (marks .entry)) (307 + 289 * (z + 1)) (now (grid .exit)) ⌝ }
@@ -78,6 +98,7 @@ fn copy_row(grid: &[u16], table: &mut [u16], w: usize, k: usize, at: usize)
     }
 }
 
+// The rows of layer z go into the table.
 fn copy_layer(s: Sizes, grid: &[u16], table: &mut [u16], z: usize)
     requires { ⌜ InRange s × (z < s .d) × (length (now grid) ≡ gridSize) × (nodes s ≤ length (now table)) ⌝ }
     ensures { λ _. ⌜ ((old : List ℕ) → Copied s (now (grid .entry)) old (s .w * (s .h * z)) (now (table .entry))

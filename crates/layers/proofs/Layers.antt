@@ -57,14 +57,14 @@ module _ (m : Map) (o : ℕ) (sized : InRange (m .sizes)) where
       → Swept m o k l
   swept-on n k l le A bare = record {
     right = λ s i b. go s i b (ltb (rowsBefore (m .sizes) s) n) refl;
-    fresh = λ s i b. A .fresh s i (omega arith);
+    unswept = λ s i b. A .unswept s i (omega arith);
   }
     where
       go : (s : Place) → Inside (m .sizes) s → rowsBefore (m .sizes) s < k → (t : Bool) → ltb (rowsBefore (m .sizes) s) n ≡ t → Right m o l s
       go s i b true e = A .right s i (ltb-true (rowsBefore (m .sizes) s) n e)
       go s i b false e =
           let q = ltb-false (rowsBefore (m .sizes) s) n e in
-          A .fresh s i q ∙ ap bit (sym (bare s i q b))
+          A .unswept s i q ∙ ap bit (sym (bare s i q b))
 
   -- the edge on Y, and on Z where it counts
   pub edge-y : (a c : ℕ) → Inside (m .sizes) (place a 0 c) → Bare (place a 0 c)
@@ -118,7 +118,7 @@ module _ (m : Map) (o : ℕ) (sized : InRange (m .sizes)) where
   laid old l F = record {
     swept = record {
       right = λ s i b. absurd (omega arith);
-      fresh = λ s i b. F .at (number (m .sizes) (toGo (m .sizes) o s)) (number-lt (m .sizes) (toGo (m .sizes) o s) (to-go-in (m .sizes) o s i));
+      unswept = λ s i b. F .at (number (m .sizes) (toGo (m .sizes) o s)) (number-lt (m .sizes) (toGo (m .sizes) o s) (to-go-in (m .sizes) o s i));
     };
     kept = λ k b. F .kept k (λ i l e. omega arith);
   }

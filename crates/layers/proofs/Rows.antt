@@ -174,7 +174,7 @@ module _ (m : Map) (o : ℕ) (sized : InRange (m .sizes)) where
                 | inl e ↦ own-row s i e
                 | inr p ↦ other-row s i (λ e. omega arith) ∙ S .right s i p
               ];
-              fresh = λ s i q. other-row s i (λ e. omega arith) ∙ S .fresh s i (omega arith);
+              unswept = λ s i q. other-row s i (λ e. omega arith) ∙ S .unswept s i (omega arith);
             };
             kept = λ k q. R .kept k λ a la e.
                 let n = number-lt (m .sizes) (withLeft m o a b c) (to-go-in (m .sizes) o (place a b c) (here-in a la)) in

@@ -14,10 +14,10 @@ abbrev pub markFrom : List ℕ → List ℕ → List ℕ → ℕ → ℕ
 markFrom cells ahead behind i = markOf (faultyCell (getD cells i 0)) (getD ahead i 0) (getD behind i 0)
 
 -- the first n bytes of old, which say what is shut ahead, have become marks
-abbrev pub Joined : List ℕ → List ℕ → List ℕ → List ℕ → ℕ → Type 0
-Joined cells behind old new n = Filled (λ i. i) (markFrom cells old behind) old new n
+abbrev pub MarksMade : List ℕ → List ℕ → List ℕ → List ℕ → ℕ → Type 0
+MarksMade cells behind old new n = Filled (λ i. i) (markFrom cells old behind) old new n
 
 -- l begins with n bytes that are 0 or 1
-pub record Bytes (n : ℕ) (l : List ℕ) : Type 0 where
+pub record Bits (n : ℕ) (l : List ℕ) : Type 0 where
   pub long : n ≤ length l
   pub bits : (i : ℕ) → i < n → getD l i 0 ≤ 1

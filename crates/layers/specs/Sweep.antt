@@ -41,8 +41,8 @@ pub record Ahead (out : List ℕ) (w k j : ℕ) (down : Bool) : Type 0 where
 abbrev pub Right : Map → ℕ → List ℕ → Place → Type 0
 Right m o l s = getD l (number (m .sizes) (toGo (m .sizes) o s)) 0 ≡ bit (shut m o (toGo (m .sizes) o s))
 
-abbrev pub Fresh : Map → ℕ → List ℕ → Place → Type 0
-Fresh m o l s = getD l (number (m .sizes) (toGo (m .sizes) o s)) 0 ≡ bit (faulty m (toGo (m .sizes) o s))
+abbrev pub Unswept : Map → ℕ → List ℕ → Place → Type 0
+Unswept m o l s = getD l (number (m .sizes) (toGo (m .sizes) o s)) 0 ≡ bit (faulty m (toGo (m .sizes) o s))
 
 -- how many rows are swept before that of the node with s steps left
 abbrev pub rowsBefore : Sizes → Place → ℕ
@@ -51,7 +51,7 @@ rowsBefore S s = s .y + S .h * s .z
 -- n rows are swept, and no others
 pub record Swept (m : Map) (o n : ℕ) (l : List ℕ) : Type 0 where
   pub right : (s : Place) → Inside (m .sizes) s → rowsBefore (m .sizes) s < n → Right m o l s
-  pub fresh : (s : Place) → Inside (m .sizes) s → n ≤ rowsBefore (m .sizes) s → Fresh m o l s
+  pub unswept : (s : Place) → Inside (m .sizes) s → n ≤ rowsBefore (m .sizes) s → Unswept m o l s
 
 -- a stretch of the sweep, after which n rows are swept; the bytes past the nodes are kept
 pub record Stretch (m : Map) (o n : ℕ) (old new : List ℕ) : Type 0 where

@@ -174,12 +174,12 @@ module _ (m : Map) (o c : ℕ) (sized : InRange (m .sizes)) (hc : c < m .sizes .
     x-byte : (a b : ℕ) → suc a < w → suc b < h → T (faulty m (withLeft m o a (suc b) c)) → getD l (p + on a b) 0 ≡ 1
     x-byte a b la lb t =
         let i : Inside (m .sizes) (place a (suc b) c) = record { x-in = omega arith; y-in = lb; z-in = hc } in
-        rw (← x-at a b la lb) (A .fresh (place a (suc b) c) i (omega arith) ∙ bit-holds (faulty m (withLeft m o a (suc b) c)) t)
+        rw (← x-at a b la lb) (A .unswept (place a (suc b) c) i (omega arith) ∙ bit-holds (faulty m (withLeft m o a (suc b) c)) t)
 
     y-byte : (a b : ℕ) → suc a < w → suc b < h → T (faulty m (withLeft m o (suc a) b c)) → getD l (q + on a b) 0 ≡ 1
     y-byte a b la lb t =
         let i : Inside (m .sizes) (place (suc a) b c) = record { x-in = la; y-in = omega arith; z-in = hc } in
-        rw (← y-at a b la lb) (A .fresh (place (suc a) b c) i (omega arith) ∙ bit-holds (faulty m (withLeft m o (suc a) b c)) t)
+        rw (← y-at a b la lb) (A .unswept (place (suc a) b c) i (omega arith) ∙ bit-holds (faulty m (withLeft m o (suc a) b c)) t)
 
     z-byte : (a b : ℕ) → suc a < w → suc b < h → T (faulty m (withLeft m o (suc a) b c)) → T (aheadZ m o (suc a) (suc b) c)
         → getD l (r + on a b) 0 ≡ 1

@@ -2,7 +2,7 @@
 use mathlib.Core.Path.{_≡_, refl, sym, ap, _∙_, subst}
 use mathlib.Core.Bool.{Bool, true, false, cond, _||_}
 use mathlib.Core.List.{List}
-use Prim.Native.Nat.{ℕ, _+_, _-_, _*_, _<_, _≤_}
+use Prim.Native.Nat.{ℕ, _+_, _*_, _<_, _≤_}
 use native.Mathlib.Omega.{arith}
 use lib.ListN.{length, getD, drop, List·getD-append}
 use Rattle.mesh.specs.Tools.{bit}
@@ -19,7 +19,7 @@ use Rattle.mesh.specs.declared.Sizes.{Sizes}
 use Rattle.mesh.specs.declared.Place.{Place}
 use Rattle.marks.specs.Entry.{marksWritten}
 use Rattle.layers.specs.Sweep.{Right, Stretch, Room}
-use Rattle.layers.specs.Join.{markOf, markFrom, Bytes, Joined}
+use Rattle.layers.specs.Join.{markOf, markFrom, Bits, MarksMade}
 
 -- ---- what is to be written
 
@@ -52,8 +52,8 @@ module _ (m : Map) (o : ℕ) (old new : List ℕ) (W : Stretch m o (m .sizes .h 
       ap (λ (j : ℕ). getD new j 0) (sym (number-of (m .sizes) k))
       ∙ subst (λ (p : Place). getD new (number (m .sizes) p) 0 ≡ bit (shut m o p)) e r
 
-  pub swept-bytes : nodes (m .sizes) ≤ length new → Bytes (nodes (m .sizes)) new
-  swept-bytes l = record { long = l; bits = λ k h. rw (swept-at k h) (bit-le (shut m o (placeOf (m .sizes) k))) }
+  pub swept-bits : nodes (m .sizes) ≤ length new → Bits (nodes (m .sizes)) new
+  swept-bits l = record { long = l; bits = λ k h. rw (swept-at k h) (bit-le (shut m o (placeOf (m .sizes) k))) }
 
 -- of a faulty node both bytes are 1, and its mark says so
 mark-shut : (f s t : Bool) → markOf f (bit (f || s)) (bit (f || t)) ≡ cond f 1 (2 * bit s + 4 * bit t)
@@ -64,19 +64,19 @@ module _ (S : Sizes) (o : ℕ) (cells old mid none behind new : List ℕ) where
   abbrev m : Map
   m = mapOf S cells
 
-  joined-at : Stretch m o (S .h * S .d) old mid → Stretch m (reversed o) (S .h * S .d) none behind
+  made-at : Stretch m o (S .h * S .d) old mid → Stretch m (reversed o) (S .h * S .d) none behind
       → (k : ℕ) → k < nodes S → markFrom cells mid behind k ≡ markAt m o (placeOf S k)
   unfolding markAt byteOf
-  joined-at A B k l =
+  made-at A B k l =
       let p : Place = placeOf S k in
       let e : faultyCell (getD cells k 0) ≡ faulty m p = ap (λ (j : ℕ). faultyCell (getD cells j 0)) (sym (number-of S k)) in
       rw (e, swept-at m o old mid A k l, swept-at m (reversed o) none behind B k l) (mark-shut (faulty m p) (stuck m o p) (stuck m (reversed o) p))
 
   pub written : Room S cells old → length new ≡ length old → Stretch m o (S .h * S .d) old mid
-      → Stretch m (reversed o) (S .h * S .d) none behind → Joined cells behind mid new (nodes S)
+      → Stretch m (reversed o) (S .h * S .d) none behind → MarksMade cells behind mid new (nodes S)
       → new ≡ marksWritten S cells o old
   unfolding marksWritten
   written R long A B F =
       front (marksOf m o) old new (nodes S) (marks-length m o) (R .out-long) long
-      (λ k l. F .at k l ∙ joined-at A B k l ∙ sym (marks-at m o (placeOf S k) (place-in S k l)) ∙ ap (λ (j : ℕ). getD (marksOf m o) j 0) (number-of S k))
+      (λ k l. F .at k l ∙ made-at A B k l ∙ sym (marks-at m o (placeOf S k) (place-in S k l)) ∙ ap (λ (j : ℕ). getD (marksOf m o) j 0) (number-of S k))
       (λ k l. F .kept k (λ j h x. omega arith) ∙ A .kept k l)

@@ -1,4 +1,5 @@
 // The call for the marks of a map. It takes every input.
+use crate::sweep::blank_marks;
 use crate::sweep::sweep;
 use layers::join::join;
 use maps::check_map;
@@ -28,18 +29,12 @@ fn marks_answer(s: Sizes, cells: &[u8], orientation: usize, room: usize) -> Answ
     Answer::Done
 }
 
-fn blank() -> [u8; 4096]
-    ensures { λ r. ⌜ length r ≡ 4096 ⌝ }
-{
-    [0u8; 4096]
-}
-
 // The marks of a map that is in order.
 fn mark_all(s: Sizes, cells: &[u8], o: usize, out: &mut [u8])
     requires { ⌜ Room s (now cells) (now out) × (o ≤ 7) ⌝ }
     ensures { λ _. ⌜ now (out .exit) ≡ marksWritten s (now (cells .entry)) o (now (out .entry)) ⌝ }
 {
-    let mut behind = blank();
+    let mut behind = blank_marks();
     let reversed = 7 - o;
     sweep(s, cells, out, o);
     sweep(s, cells, &mut behind, reversed);

@@ -8,7 +8,7 @@ use mesh::Sizes;
 ghost use mathlib.Core.Path.{_≡_};
 ghost use mathlib.Core.Bool.{false};
 ghost use mathlib.Core.List.{List};
-ghost use Prim.Native.Nat.{ℕ, _+_, _-_, _*_, _≤_, _<_};
+ghost use Prim.Native.Nat.{ℕ, _+_, _*_, _≤_, _<_};
 ghost use lib.ListN.{length, getD};
 ghost use lib.Dec.{leb};
 ghost use Rattle.mesh.specs.Tools.{bit};
@@ -17,6 +17,13 @@ ghost use Rattle.mesh.specs.Cells.{mapOf, faultyCell};
 ghost use Rattle.mesh.specs.Fill.{Filled};
 ghost use Rattle.layers.specs.Sweep.{Swept, Stretch, Room};
 ghost use Rattle.marks.specs.Clear.{inner, Apart};
+
+// A byte for each node of the largest mesh.
+pub fn blank_marks() -> [u8; 4096]
+    ensures { λ r. ⌜ length r ≡ 4096 ⌝ }
+{
+    [0; 4096]
+}
 
 // Each node's byte: 1 where it is faulty, else 0.
 fn lay(cells: &[u8], out: &mut [u8], n: usize)

@@ -11,14 +11,14 @@ use Rattle.touching.specs.Lists.{isIn, foldedBy, least, greatest}
 use Rattle.touching.proofs.Lists.{T-in, in-first, in-none}
 
 -- of two, `pick` takes one that bounds both
-record Bounds (pick : ℕ → ℕ → ℕ) (R : ℕ → ℕ → Type 0) : Type 0 where
+record Picks (pick : ℕ → ℕ → ℕ) (R : ℕ → ℕ → Type 0) : Type 0 where
   itself : (a : ℕ) → R a a
   chain : (a b c : ℕ) → R a b → R b c → R a c
   first : (a b : ℕ) → R (pick a b) a
   second : (a b : ℕ) → R (pick a b) b
   either : (a b : ℕ) → (pick a b ≡ a) ⊎ (pick a b ≡ b)
 
-module _ {pick : ℕ → ℕ → ℕ} {R : ℕ → ℕ → Type 0} (B : Bounds pick R) (f : ℕ → ℕ) where
+module _ {pick : ℕ → ℕ → ℕ} {R : ℕ → ℕ → Type 0} (B : Picks pick R) (f : ℕ → ℕ) where
   abbrev fold : ℕ → List ℕ → ℕ
   fold n l = foldr (λ j m. pick (f j) m) n l
 
@@ -48,7 +48,7 @@ module _ {pick : ℕ → ℕ → ℕ} {R : ℕ → ℕ → Type 0} (B : Bounds p
   taken [] k i = absurd (in-none k i)
   taken (j ∷ js) k i = elim (met (f j) js) [ inl e ↦ (j, in-first j js, e) | inr g ↦ (g .0, T-in (g .0) j js .1 (inr (g .1)), g .2) ]
 
-low : Bounds min _≤_
+low : Picks min _≤_
 low =
     record {
       itself = λ a. omega arith;
@@ -58,7 +58,7 @@ low =
       either = λ a b. elim (tried (leb a b)) [ inl t ↦ inl (min-eq-left (leb→le a b t)) | inr t ↦ inr (min-eq-right (omega (arith, nleb→lt a b t))) ];
     }
 
-high : Bounds max (λ a b. b ≤ a)
+high : Picks max (λ a b. b ≤ a)
 high =
     record {
       itself = λ a. omega arith;

@@ -9,8 +9,11 @@ use native.Mathlib.Omega.{arith}
 use lib.Dec.{T, eqb, leb, nleb→lt, leb→le, eqb-refl}
 use lib.ListN.{length, List·getD-eq-default}
 use Rattle.mesh.specs.Tools.{table}
-use Rattle.mesh.specs.Mesh.{placeOf}
+use Rattle.mesh.specs.Mesh.{nodes, placeOf}
+use Rattle.mesh.specs.Cells.{Map}
 use Rattle.mesh.proofs.Tests.{T-or, T-eq, tried}
+use Rattle.mesh.proofs.Tables.{getD-table}
+use Rattle.rules.specs.Marks.{markAt, unsafeAt, marksOf}
 use Rattle.mesh.specs.declared.Sizes.{Sizes}
 use Rattle.touching.specs.Lists.{isIn, keep}
 use Rattle.touching.specs.Touch.{unsafe, unsafeNodes, touching, Joined, itself, further, near, grown, component, joined}
@@ -51,6 +54,11 @@ T-unsafe marks k = (
   λ i. T-keep (unsafe marks) (table (λ j. j) (length marks)) k .0 i .1,
   λ u. T-keep (unsafe marks) (table (λ j. j) (length marks)) k .1 (T-table (λ j. j) (length marks) k .1 (k, unsafe-lt marks k u, refl), u),
 )
+
+-- by the mark bytes of a map the unsafe nodes are those of the mark rule
+pub unsafe-of : (m : Map) (o k : ℕ) → k < nodes (m .sizes) → unsafe (marksOf m o) k ≡ unsafeAt m o (placeOf (m .sizes) k)
+unfolding marksOf unsafeAt
+unsafe-of m o k h = ap (λ (b : ℕ). not (eqb b 0)) (getD-table (λ i. markAt m o (placeOf (m .sizes) i)) (nodes (m .sizes)) k 0 h)
 
 pub unsafe-ascends : (marks : List ℕ) → Ascending (unsafeNodes marks)
 unfolding unsafeNodes

@@ -15,7 +15,7 @@ use Rattle.mesh.specs.declared.Sizes.{Sizes}
 use Rattle.touching.specs.Lists.{isIn, least, greatest}
 use Rattle.touching.specs.Touch.{unsafe, unsafeNodes, component}
 use Rattle.touching.specs.Components.{tableOf, coordinate, recordOf, recordsOf, howMany}
-use Rattle.touching.specs.Promise.{Extent, Records, Promise}
+use Rattle.touching.specs.Promise.{Bounds, Extent, Records, Promise}
 use Rattle.touching.specs.declared.Component.{Component}
 use Rattle.touching.proofs.Lists.{keep-ext, keep-keep, keep-count}
 use Rattle.touching.proofs.Ranks.{at-in}
@@ -96,9 +96,8 @@ module _ (S : Sizes) (marks : List ℕ) where
 
 -- ---- and nothing else keeps it
 
-extent-only : {S : Sizes} {t : List ℕ} {i : ℕ} {axis : Axis} {lo hi lo′ hi′ : ℕ} → Extent S t i axis lo hi → Extent S t i axis lo′ hi′
-    → (lo ≡ lo′) × (hi ≡ hi′)
-extent-only e f =
+bounds-only : {Has : ℕ → Type 0} {f : ℕ → ℕ} {lo hi lo′ hi′ : ℕ} → Bounds Has f lo hi → Bounds Has f lo′ hi′ → (lo ≡ lo′) × (hi ≡ hi′)
+bounds-only e f =
     let (a, m, p) = e .at-lo in
     let (b, n, q) = f .at-lo in
     let (c, k, r) = e .at-hi in
@@ -107,9 +106,9 @@ extent-only e f =
 
 records-only : {S : Sizes} {t : List ℕ} {i : ℕ} {c c′ : Component} → Records S t i c → Records S t i c′ → c ≡ c′
 records-only r s =
-    let (x0, x1) = extent-only (r .on-x) (s .on-x) in
-    let (y0, y1) = extent-only (r .on-y) (s .on-y) in
-    let (z0, z1) = extent-only (r .on-z) (s .on-z) in
+    let (x0, x1) = bounds-only (r .on-x) (s .on-x) in
+    let (y0, y1) = bounds-only (r .on-y) (s .on-y) in
+    let (z0, z1) = bounds-only (r .on-z) (s .on-z) in
     let n = r .members ∙ sym (s .members) in
     λ j. record { count = n j; x0 = x0 j; y0 = y0 j; z0 = z0 j; x1 = x1 j; y1 = y1 j; z1 = z1 j }
 

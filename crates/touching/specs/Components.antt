@@ -46,6 +46,17 @@ recordOf S members =
       z1 = greatest (coordinate S Z) members;
     }
 
+-- a record's least and greatest coordinate on an axis
+abbrev pub leastOf : Component → Axis → ℕ
+leastOf c X = c .x0
+leastOf c Y = c .y0
+leastOf c Z = c .z0
+
+abbrev pub greatestOf : Component → Axis → ℕ
+greatestOf c X = c .x1
+greatestOf c Y = c .y1
+greatestOf c Z = c .z1
+
 abbrev pub recordsAmong : Sizes → List ℕ → List Component
 recordsAmong S among = map (λ a. recordOf S (component S among a)) (lowestNodes S among)
 

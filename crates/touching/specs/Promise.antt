@@ -33,11 +33,15 @@ pub record Numbers (S : Sizes) (marks : List ℕ) (n : ℕ) (table : List ℕ) :
   -- "by their lowest node number"
   pub rising : (a b : ℕ) → Lowest S marks a → Lowest S marks b → a < b → getD table a 0 < getD table b 0
 
--- lo and hi are the "least and greatest coordinate" of the nodes with number i
-pub record Extent (S : Sizes) (table : List ℕ) (i : ℕ) (axis : Axis) (lo hi : ℕ) : Type 0 where
-  pub within : (a : ℕ) → getD table a 0 ≡ i → (lo ≤ coordinate S axis a) × (coordinate S axis a ≤ hi)
-  pub at-lo : (a : ℕ) × (getD table a 0 ≡ i) × (coordinate S axis a ≡ lo)
-  pub at-hi : (a : ℕ) × (getD table a 0 ≡ i) × (coordinate S axis a ≡ hi)
+-- lo and hi are the least and the greatest f of the numbers that `Has` is true of
+pub record Bounds (Has : ℕ → Type 0) (f : ℕ → ℕ) (lo hi : ℕ) : Type 0 where
+  pub within : (a : ℕ) → Has a → (lo ≤ f a) × (f a ≤ hi)
+  pub at-lo : (a : ℕ) × Has a × (f a ≡ lo)
+  pub at-hi : (a : ℕ) × Has a × (f a ≡ hi)
+
+-- the "least and greatest coordinate" of the nodes with number i
+abbrev pub Extent : Sizes → List ℕ → ℕ → Axis → ℕ → ℕ → Type 0
+Extent S table i axis lo hi = Bounds (λ a. getD table a 0 ≡ i) (coordinate S axis) lo hi
 
 -- the record of the component with number i: "count of nodes, least and greatest coordinate on each axis"
 pub record Records (S : Sizes) (table : List ℕ) (i : ℕ) (c : Component) : Type 0 where

@@ -7,14 +7,14 @@ use denote.Ref.{now}
 use lib.ListN.{length}
 use Rattle.mesh.specs.Mesh.{nodes}
 use Rattle.mesh.specs.declared.Refusal.the-variants.{NoRoom}
-use Rattle.components.proofs.Outcomes.{settled-refused, settled-granted}
+use Rattle.components.proofs.Outcomes.{answered-refused, answered-granted}
 use Rattle.components.proofs.entry.settle.Statement.{statement}
 use Rattle.components.proofs.entry.settle.Tie as tie
 
 returns : tie.Need-returns
 returns c =
     let a = c .before .before .before .before .before .args in
-    settled-refused (a .s) (a .checked) (now (a .grid)) (a .count) (a .room) (now (a .table)) _ (rw (c .before .checked .given .1))
+    answered-refused (a .s) (a .checked) (now (a .grid)) (a .count) (a .room) (now (a .table)) _ (rw (c .before .checked .given .1))
 
 nodes-requires : tie.Need-nodes-requires
 nodes-requires c κs = c .before .before .before .before .pre .0 (c .enum-told .given .1)
@@ -23,7 +23,7 @@ returns-2 : tie.Need-returns-2
 returns-2 c =
     let n = c .before in
     let a = n .before .before .before .before .before .args in
-    settled-refused (a .s) (a .checked) (now (a .grid)) (a .count) (a .room) (now (a .table)) NoRoom
+    answered-refused (a .s) (a .checked) (now (a .grid)) (a .count) (a .room) (now (a .table)) NoRoom
     (rw (n .before .enum-told .given .1, lt-leb (nodes (a .s)) (length (now (a .table))) (omega (arith, c .if1 .taken, n .nodes .ensures .0))))
 
 -- there is room for the table
@@ -34,7 +34,7 @@ returns-3 : tie.Need-returns-3
 returns-3 c =
     let n = c .before .before in
     let a = n .before .before .before .before .before .args in
-    settled-refused (a .s) (a .checked) (now (a .grid)) (a .count) (a .room) (now (a .table)) NoRoom
+    answered-refused (a .s) (a .checked) (now (a .grid)) (a .count) (a .room) (now (a .table)) NoRoom
     (rw (
       n .before .enum-told .given .1,
       le-leb (nodes (a .s)) (length (now (a .table))) (fits (c .before)),
@@ -54,7 +54,7 @@ returns-4 c =
     let e = w .before .before in
     let t = e .before .before .before in
     let a = t .before .before .before .before .args in
-    settled-granted (a .s) (a .checked) (now (a .grid)) (a .count) (a .room) (now (a .table)) (w .copy-out .last .1 .1 .0)
+    answered-granted (a .s) (a .checked) (now (a .grid)) (a .count) (a .room) (now (a .table)) (w .copy-out .last .1 .1 .0)
     (rw (t .enum-told .given .1, le-leb (nodes (a .s)) (length (now (a .table))) (fits (e .before)), le-leb (a .count) (a .room) (e .if2 .left)))
     (w .copy-out .ensures)
 

@@ -3,8 +3,8 @@ use mathlib.Core.Path.{_≡_, _∙_}
 use Prim.Native.Nat.{_-_, _<_}
 use native.Mathlib.Omega.{arith}
 use lib.ListN.{getD}
-use Rattle.grids.specs.Grid.{gridSize, unseen, Spot, howOften}
-use Rattle.floods.specs.Flood.{Part}
+use Rattle.grids.specs.Grid.{gridSize, unseen, Spot}
+use Rattle.floods.specs.Flood.{howOften, Part}
 use Rattle.grids.proofs.Around.{spot-le}
 use Rattle.floods.proofs.Parts.{often-le, Drained, begins, drained-more, drained-all}
 use Rattle.floods.proofs.flood.flood.Statement.{statement}

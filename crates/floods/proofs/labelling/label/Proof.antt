@@ -38,7 +38,7 @@ loop-holds : tie.Need-loop-holds Inv-loop2 μ-loop2 Inv-loop μ-loop
 loop-holds c = (
   omega arith,
   turn-none (c .before .before .before .before .pre .0) (c .before .before .before .before .pre .1)
-      (c .before .before .steps-around .ensures) (c .before .blank-queue .ensures) (c .blank-records .ensures),
+      (c .before .before .steps-around .ensures) (c .before .blank-grid .ensures .0) (c .blank-records .ensures),
 )
 
 mul-from : tie.Need-mul-from Inv-loop2 μ-loop2 Inv-loop μ-loop

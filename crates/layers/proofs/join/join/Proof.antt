@@ -5,12 +5,12 @@ use native.Mathlib.Omega.{arith}
 use denote.Ref.{now}
 use lib.ListN.{getD}
 use Rattle.mesh.proofs.Fill.{fill-none, fill-more}
-use Rattle.layers.specs.Join.{Joined}
+use Rattle.layers.specs.Join.{MarksMade}
 use Rattle.layers.proofs.join.join.Statement.{statement}
 use Rattle.layers.proofs.join.join.Tie as tie
 
 abbrev Inv-loop : tie.InvT-loop
-Inv-loop cells behind out₀ n i₀ out i = (i ≤ n) × Joined cells behind out₀ out i
+Inv-loop cells behind out₀ n i₀ out i = (i ≤ n) × MarksMade cells behind out₀ out i
 
 abbrev μ-loop : tie.MeasureT-loop
 μ-loop cells behind out₀ n i₀ out i = n - i
@@ -44,7 +44,7 @@ returns c =
     let at = c .before in
     let a = at .before .before .before .before .args in
     let e : at .loop .i ≡ a .n = omega arith in
-    subst (λ (n : ℕ). Joined (now (a .cells)) (now (a .behind)) (now (a .out)) (at .loop .out) n) e (at .loop .inv .1)
+    subst (λ (n : ℕ). MarksMade (now (a .cells)) (now (a .behind)) (now (a .out)) (at .loop .out) n) e (at .loop .inv .1)
 
 pub join-spec : {M : Type 1} → statement M
 join-spec =

@@ -5,8 +5,8 @@ use native.Mathlib.Omega.{arith}
 use borrow.Author.Needs.{needs}
 use denote.Ref.{now}
 use Rattle.mesh.proofs.Numbers.{nodes-le}
-use Rattle.layers.specs.Join.{Joined}
-use Rattle.marks.proofs.Written.{swept-bytes, written}
+use Rattle.layers.specs.Join.{MarksMade}
+use Rattle.marks.proofs.Written.{swept-bits, written}
 use Rattle.marks.proofs.entry.mark_all.Statement.{statement}
 use Rattle.marks.proofs.entry.mark_all.Tie as tie
 
@@ -17,7 +17,7 @@ sweep-requires-2 c κs =
     record {
       sized = r .sized;
       cells-long = r .cells-long;
-      out-long = omega (arith, c .before .before .before .before .before .blank .ensures, nodes-le (s .args .s) (r .sized));
+      out-long = omega (arith, c .before .before .before .before .before .blank-marks .ensures, nodes-le (s .args .s) (r .sized));
     }
 
 join-requires : tie.Need-join-requires
@@ -30,9 +30,9 @@ join-requires c κs =
     let n = c .nodes .ensures .0 in
     rw n (
       omega (arith, r .cells-long),
-      swept-bytes _ _ _ (g .sweep2 .last .1 .1 .0) (g .sweep2 .ensures)
-          (omega (arith, f .before .before .blank .ensures, g .sweep2 .kept .1 .1 .0, nodes-le (a .s) (r .sized))),
-      swept-bytes _ _ _ (f .sweep .last .1 .1 .0) (f .sweep .ensures) (omega (arith, r .out-long, f .sweep .kept .1 .1 .0)),
+      swept-bits _ _ _ (g .sweep2 .last .1 .1 .0) (g .sweep2 .ensures)
+          (omega (arith, f .before .before .blank-marks .ensures, g .sweep2 .kept .1 .1 .0, nodes-le (a .s) (r .sized))),
+      swept-bits _ _ _ (f .sweep .last .1 .1 .0) (f .sweep .ensures) (omega (arith, r .out-long, f .sweep .kept .1 .1 .0)),
     )
 
 returns : tie.Need-returns
@@ -45,7 +45,7 @@ returns c =
     let a = s .args in
     written (a .s) (a .o) (now (a .cells)) (now (a .out)) (f .sweep .last .1 .1 .0) _ (g .sweep2 .last .1 .1 .0) (k .join .last .1 .1 .0)
     (s .pre .0) (k .join .kept .1 .1 .0 ∙ f .sweep .kept .1 .1 .0) (f .sweep .ensures) (g .sweep2 .ensures)
-    (subst (λ (n : ℕ). Joined (now (a .cells)) (g .sweep2 .last .1 .1 .0) (f .sweep .last .1 .1 .0) (k .join .last .1 .1 .0) n) (n .nodes .ensures .0)
+    (subst (λ (n : ℕ). MarksMade (now (a .cells)) (g .sweep2 .last .1 .1 .0) (f .sweep .last .1 .1 .0) (k .join .last .1 .1 .0) n) (n .nodes .ensures .0)
     (k .join .ensures))
 
 pub mark-all-spec : {M : Type 1} → statement M

@@ -1,9 +1,9 @@
--- `components::entry::blank_grid` meets its contract. Assumes nothing.
+-- `grids::blank_grid` meets its contract. Assumes nothing.
 use mathlib.Core.Path.{_≡_, refl}
 use Prim.Native.Nat.{ℕ, zero, suc}
 use lib.ListN.{getD, replicate}
-use Rattle.components.proofs.entry.blank_grid.Statement.{statement}
-use Rattle.components.proofs.entry.blank_grid.Tie as tie
+use Rattle.grids.proofs.blank_grid.Statement.{statement}
+use Rattle.grids.proofs.blank_grid.Tie as tie
 
 zeros : (n j : ℕ) → _≡_ {A = ℕ} (getD (replicate n 0) j 0) 0
 zeros zero j = refl
