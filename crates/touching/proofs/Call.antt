@@ -1,6 +1,6 @@
 -- Demand 2 for the components: whatever the call writes on a grant are the components of the marks by the rules. Its contract fixes what is
 -- written, so it is enough that the definitions keep the promise. Assumes nothing.
-use mathlib.Core.List.{List, _++_}
+use mathlib.Core.List.{List}
 use mathlib.Core.Path.{_≡_, sym, subst, _∙_}
 use Prim.Native.Nat.{ℕ}
 use lib.ListN.{length, drop}
