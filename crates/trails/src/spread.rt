@@ -18,7 +18,8 @@ ghost use Rattle.mesh.specs.Cells.{mapOf};
 ghost use Rattle.mesh.specs.Fill.{Filled};
 ghost use Rattle.paths.specs.Offered.{reached};
 ghost use Rattle.sweeps.specs.Box.{far};
-ghost use Rattle.sweeps.specs.Sweep.{Ready, Ends, WaysTo, Blank, Spread, Bits};
+ghost use Rattle.sweeps.specs.Sweep.{Ready, Ends, WaysTo};
+ghost use Rattle.trails.specs.Spread.{Bits, Blank, Spread};
 
 // Every layer of a box, each at its own nodes, and the ways into the far corner.
 pub fn spread(s: Sizes, cells: &[u8], g: Between, bytes: &mut [u8]) -> Ways
