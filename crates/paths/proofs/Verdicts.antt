@@ -78,7 +78,7 @@ module _ (S : Sizes) (cells : List ℕ) (s e : ℕ) where
   m = mapOf S cells
 
   -- the checks of the question, and of its ends
-  abbrev asked : Answer
+  abbrev pub asked : Answer
   asked = checkMap S cells andThen checkNode S s andThen checkNode S e
 
   abbrev end-checks : Answer
@@ -114,7 +114,7 @@ module _ (S : Sizes) (cells : List ℕ) (s e : ℕ) where
       let t = leads m (placeOf S e) (placeOf S s) (placeOf S e) in
       no-then P (checkEnds S cells s e) (unless t NoPath) (ends-no P p0 p1 p2 p4 p5 p9) (no-unless P t NoPath p0 p10)
 
-  in-order : (asked ≡ Done) ↔ InOrder S cells s e
+  pub in-order : (asked ≡ Done) ↔ InOrder S cells s e
   in-order = (
     λ h.
         let (g, k) = split (checkMap S cells andThen checkNode S s) (checkNode S e) h in
