@@ -1,4 +1,4 @@
--- 01's law of useless nodes: "a useless node has no path to a working node that is not useless and lies ahead of it or level with it on
+-- 01's law of useless nodes: "a useless node has no path .. to a working node that is not useless and lies ahead of it or level with it on
 -- every counted axis." Each hop of such a path goes ahead, onto a node that works and so is useless again; the end is not. Assumes nothing.
 use mathlib.Core.Path.{_≡_, refl, ap, _∙_, subst}
 use mathlib.Core.Logic.{_↔_, inl, inr}

@@ -37,7 +37,7 @@ use Rattle.paths.proofs.Paths.{leads-iff, path-iff}
 use Rattle.paths.proofs.Offered.{offered-bit, offered-lt, offered-end, route-lowest, route-leads, route-length}
 use Rattle.paths.proofs.Reached.{start-reached, reached-on, closed-refuses, reached-length, reached-byte, byte-iff, end-byte}
 use Rattle.paths.proofs.Direct.{path-direct, begins-iff, lowest-takes}
-use Rattle.paths.proofs.Verdicts.{ends-iff, faulty-iff, early, granted-iff, refused-iff}
+use Rattle.paths.proofs.Verdicts.{ends-iff, faulty-iff, early, ends-room, verdict-room, granted-iff, refused-iff}
 use Rattle.paths.specs.declared.Verdict.the-variants.{Granted, NotGranted}
 
 -- ---- answers and the checks that they come from
@@ -92,8 +92,8 @@ module _ (S : Sizes) (cells : List ℕ) (s e : ℕ) where
       let passes = granted-iff S cells s e in
       record {
         not-asked = λ n.
-            let (r, h, l) = early S cells s e n in
-            (r, verdict-refused check h₀ o₀ r .1 (stands (checkEnds S cells s e) (unless (leads m to from to) NoPath) r h), l);
+            let (r, w, h) = early S cells s e n in
+            (r, w, verdict-refused check h₀ o₀ r .1 (stands (checkEnds S cells s e) (unless (leads m to from to) NoPath) r h));
         no-path = both (verdict-refused check h₀ o₀ NoPath) (refused-iff S cells s e);
         faulty-end = both (verdict-refused check h₀ o₀ FaultyEnd) (both nine (faulty-iff S cells s e));
         granted = (
@@ -117,9 +117,25 @@ module _ (S : Sizes) (cells : List ℕ) (s e : ℕ) where
 
   -- ---- the route
 
+  route-early : (room : ℕ) (r : Refusal) → checkEnds S cells s e ≡ Refused r → routeCheck S cells s e room ≡ Refused r
+  unfolding routeCheck verdictCheck
+  route-early room r h = rw h
+
+  route-nine : (room : ℕ) → (routeCheck S cells s e room ≡ Refused FaultyEnd) ↔ (checkEnds S cells s e ≡ Refused FaultyEnd)
+  unfolding routeCheck
+  route-nine room = both (earlier (verdictCheck S cells s e) (leb (routeLength S s e) room) NoRoom FaultyEnd (λ z. omega arith)) nine
+
   route-ten : (room : ℕ) → (routeCheck S cells s e room ≡ Refused NoPath) ↔ (verdictCheck S cells s e ≡ Refused NoPath)
   unfolding routeCheck
   route-ten room = earlier (verdictCheck S cells s e) (leb (routeLength S s e) room) NoRoom NoPath (λ z. omega arith)
+
+  route-three : (room : ℕ) → (routeCheck S cells s e room ≡ Refused NoRoom) ↔ (InOrder S cells s e × Joined S cells s e × (room < hops from to + 1))
+  unfolding routeCheck
+  route-three room =
+      let short = verdict-room S cells s e (routeLength S s e) room in (
+        λ h. let (c, r) = short .0 h in let (q, p) = granted-iff S cells s e .0 c in (q, p, r),
+        λ w. let (q, p, r) = w in short .1 (granted-iff S cells s e .1 (q, p), r),
+      )
 
   route-done : (room : ℕ) → (routeCheck S cells s e room ≡ Done) ↔ (InOrder S cells s e × Joined S cells s e × (hops from to + 1 ≤ room))
   unfolding routeCheck
@@ -137,7 +153,10 @@ module _ (S : Sizes) (cells : List ℕ) (s e : ℕ) where
       let n₀ = routeLength S s e in
       let check = routeCheck S cells s e (length old) in
       record {
+        not-asked = λ n. let (r, w, h) = early S cells s e n in (r, w, number-refused check n₀ r .1 (route-early (length old) r h));
+        faulty-end = both (number-refused check n₀ FaultyEnd) (both (route-nine (length old)) (faulty-iff S cells s e));
         no-path = both (number-refused check n₀ NoPath) (both (route-ten (length old)) (refused-iff S cells s e));
+        no-room = both (number-refused check n₀ NoRoom) (route-three (length old));
         granted = (
           λ w. route-done (length old) .0 (number-granted check n₀ (w .0) (w .1) .0),
           λ w. (n₀, rw (route-done (length old) .1 w)),
@@ -157,6 +176,22 @@ module _ (S : Sizes) (cells : List ℕ) (s e : ℕ) where
       }
 
   -- ---- what is reached
+
+  reached-early : (room : ℕ) (r : Refusal) → checkEnds S cells s e ≡ Refused r → reachedCheck S cells s e room ≡ Refused r
+  unfolding reachedCheck
+  reached-early room r h = rw h
+
+  reached-nine : (room : ℕ) → (reachedCheck S cells s e room ≡ Refused FaultyEnd) ↔ (checkEnds S cells s e ≡ Refused FaultyEnd)
+  unfolding reachedCheck
+  reached-nine room = earlier (checkEnds S cells s e) (leb (nodes S) room) NoRoom FaultyEnd (λ z. omega arith)
+
+  reached-three : (room : ℕ) → (reachedCheck S cells s e room ≡ Refused NoRoom) ↔ (InOrder S cells s e × BothWork S cells s e × (room < nodes S))
+  unfolding reachedCheck
+  reached-three room =
+      let short = ends-room S cells s e (nodes S) room in (
+        λ h. let (c, r) = short .0 h in let (q, w) = ends-iff S cells s e .0 c in (q, w, r),
+        λ t. let (q, w, r) = t in short .1 (ends-iff S cells s e .1 (q, w), r),
+      )
 
   reached-done : (room : ℕ) → (reachedCheck S cells s e room ≡ Done) ↔ (InOrder S cells s e × BothWork S cells s e × (nodes S ≤ room))
   unfolding reachedCheck
@@ -226,6 +261,9 @@ module _ (S : Sizes) (cells : List ℕ) (s e : ℕ) where
       let check = reachedCheck S cells s e (length old) in
       let done : (n : ℕ) → numbered check n₀ ≡ Number n → (check ≡ Done) × (n₀ ≡ n) = number-granted check n₀ in
       record {
+        not-asked = λ n. let (r, w, h) = early S cells s e n in (r, w, number-refused check n₀ r .1 (reached-early (length old) r h));
+        faulty-end = both (number-refused check n₀ FaultyEnd) (both (reached-nine (length old)) (faulty-iff S cells s e));
+        no-room = both (number-refused check n₀ NoRoom) (reached-three (length old));
         granted = (
           λ w. reached-done (length old) .0 (done (w .0) (w .1) .0),
           λ w. (n₀, rw (reached-done (length old) .1 w)),

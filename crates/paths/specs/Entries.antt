@@ -18,7 +18,7 @@ use Rattle.paths.specs.Offered.{offered, route, reached, reachedCount}
 use Rattle.paths.specs.declared.Verdict.{Verdict}
 use Rattle.paths.specs.declared.Verdict.the-variants.{Granted, NotGranted}
 
--- a verdict's number and values: "a granted call returns number 0 with its values, a refusal its number and 0 for every value"
+-- a verdict's number and values: "A granted call returns number 0 with its values. A refusal returns its number and 0 for every value"
 abbrev pub verdictNo : Verdict → ℕ
 verdictNo (Granted h o) = 0
 verdictNo (NotGranted r) = refusalNo r

@@ -14,12 +14,11 @@ use Rattle.mesh.specs.Mesh.{InRange, sizes, nodes, number, placeOf}
 use Rattle.mesh.specs.Steps.{next}
 use Rattle.mesh.specs.Cells.{Map, mapOf, cellAt, badCell, mayEnd, linked}
 use Rattle.rules.specs.Marks.{markAt}
-use Rattle.mesh.specs.Answers.{refusalNo}
 use Rattle.mesh.specs.declared.Sizes.{Sizes}
 use Rattle.mesh.specs.declared.Place.{Place}
 use Rattle.mesh.specs.declared.Next.the-variants.{At}
 use Rattle.mesh.specs.declared.Refusal.{Refusal}
-use Rattle.mesh.specs.declared.Refusal.the-variants.{FaultyEnd, NoPath}
+use Rattle.mesh.specs.declared.Refusal.the-variants.{BadSizes, BadLength, NoRoom, BadCell, BadNumber, FaultyEnd, NoPath}
 use Rattle.mesh.specs.declared.Numbered.{Numbered}
 use Rattle.mesh.specs.declared.Numbered.the-variants.{Number, NotNumbered}
 use Rattle.paths.specs.Differences.{hops}
@@ -37,13 +36,25 @@ module _ (S : Sizes) (cells : List ℕ) (s e : ℕ) where
   abbrev at : ℕ → Place
   at k = placeOf S k
 
+  -- no cell below n is bad
+  abbrev pub GoodBelow : ℕ → Type 0
+  GoodBelow n = (k : ℕ) → k < n → T (not (badCell S k (getD cells k 0)))
+
   -- it is in order: sizes in range, a cell for each node and none bad, two nodes
   pub record InOrder : Type 0 where
     pub sized : InRange S
     pub whole : length cells ≡ nodes S
-    pub good : (k : ℕ) → k < nodes S → T (not (badCell S k (getD cells k 0)))
+    pub good : GoodBelow (nodes S)
     pub start-in : s < nodes S
     pub end-in : e < nodes S
+
+  -- it is not, and which refusal says so: the first of sizes (1), length (2), cells (4) and numbers (5) that is wrong
+  pub data OutOfOrder : Refusal → Type 0 where
+    by-sizes : (InRange S → ⊥) → OutOfOrder BadSizes
+    by-length : InRange S → (length cells ≡ nodes S → ⊥) → OutOfOrder BadLength
+    by-cell : InRange S → length cells ≡ nodes S → (k : ℕ) → k < nodes S → T (badCell S k (getD cells k 0)) → GoodBelow k
+        → OutOfOrder (BadCell k)
+    by-number : InRange S → length cells ≡ nodes S → GoodBelow (nodes S) → ((s < nodes S) × (e < nodes S) → ⊥) → OutOfOrder BadNumber
 
   -- both ends work; a path joins them; a path from node k to the end begins in direction j
   abbrev pub BothWork : Type 0
@@ -82,7 +93,7 @@ module _ (S : Sizes) (cells : List ℕ) (s e : ℕ) where
   pub record VerdictPromise (v : Verdict) : Type 0 where
     -- refused by 1, 2, 4 or 5 where the question is not in order; by 9 exactly if an end does not work; by 10 exactly if both ends work and
     -- no path joins them; granted exactly if one does;
-    pub not-asked : (InOrder → ⊥) → (r : Refusal) × (v ≡ NotGranted r) × (refusalNo r ≤ 5)
+    pub not-asked : (InOrder → ⊥) → (r : Refusal) × OutOfOrder r × (v ≡ NotGranted r)
     pub faulty-end : (v ≡ NotGranted FaultyEnd) ↔ (InOrder × (BothWork → ⊥))
     pub no-path : (v ≡ NotGranted NoPath) ↔ (InOrder × BothWork × (Joined → ⊥))
     pub granted : ((h o : ℕ) × (v ≡ Granted h o)) ↔ (InOrder × Joined)
@@ -95,8 +106,12 @@ module _ (S : Sizes) (cells : List ℕ) (s e : ℕ) where
 
   -- The route: the numbers `old` are lent, and are `new` when the call returns.
   pub record RoutePromise (old : List ℕ) (answer : Numbered) (new : List ℕ) : Type 0 where
-    -- refused by 10 as the verdict is; granted exactly if a path joins the ends, and there is room for its nodes;
+    -- refused by 1, 2, 4, 5, 9 and 10 as the verdict is; by 3 exactly if a path joins the ends and there is no room for its nodes; granted
+    -- exactly if there is;
+    pub not-asked : (InOrder → ⊥) → (r : Refusal) × OutOfOrder r × (answer ≡ NotNumbered r)
+    pub faulty-end : (answer ≡ NotNumbered FaultyEnd) ↔ (InOrder × (BothWork → ⊥))
     pub no-path : (answer ≡ NotNumbered NoPath) ↔ (InOrder × BothWork × (Joined → ⊥))
+    pub no-room : (answer ≡ NotNumbered NoRoom) ↔ (InOrder × Joined × (length old < hops (at s) (at e) + 1))
     pub granted : ((n : ℕ) × (answer ≡ Number n)) ↔ (InOrder × Joined × (hops (at s) (at e) + 1 ≤ length old))
     -- then n numbers stand in front: a path from start to end that takes the lowest offered direction at each of its nodes.
     pub written : (n : ℕ) → answer ≡ Number n
@@ -105,8 +120,13 @@ module _ (S : Sizes) (cells : List ℕ) (s e : ℕ) where
 
   -- What is reached: the bytes `old` are lent, and are `new` when the call returns.
   pub record ReachedPromise (old : List ℕ) (answer : Numbered) (new : List ℕ) : Type 0 where
+    -- refused by 1, 2, 4, 5 and 9 as the verdict is; by 3 exactly if both ends work and there is no room for all nodes; granted exactly if
+    -- there is;
+    pub not-asked : (InOrder → ⊥) → (r : Refusal) × OutOfOrder r × (answer ≡ NotNumbered r)
+    pub faulty-end : (answer ≡ NotNumbered FaultyEnd) ↔ (InOrder × (BothWork → ⊥))
+    pub no-room : (answer ≡ NotNumbered NoRoom) ↔ (InOrder × BothWork × (length old < nodes S))
     pub granted : ((n : ℕ) × (answer ≡ Number n)) ↔ (InOrder × BothWork × (nodes S ≤ length old))
-    -- one byte for each node stands in front, 1 exactly where preferred steps towards the end lead from the start to it, n of them;
+    -- then one byte for each node stands in front, 1 exactly where preferred steps towards the end lead from the start to it, n of them;
     pub written : (n : ℕ) → answer ≡ Number n → (bytes : List ℕ) × (length bytes ≡ nodes S) × (new ≡ bytes ++ drop (nodes S) old)
         × ((k : ℕ) → k < nodes S → (getD bytes k 0 ≤ 1) × ((getD bytes k 0 ≡ 1) ↔ ((l : List ℕ) × Leads m (at e) (at s) (at k) l)))
         × (n ≡ count (nodes S) λ k. eqb (getD bytes k 0) 1)

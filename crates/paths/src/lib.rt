@@ -1,4 +1,5 @@
-// Direct routes: what a path, its hops, the offered set and the route are, and what the calls owe. Its specs/ say it; it has no code.
+// Direct routes: what a path, its hops, the offered set and the route are, and what the calls owe. Its specs/ say it;
+// its only code is the types that they speak of.
 use mesh::Refusal;
 
 // The direction that a difference prefers on its axis, or none.

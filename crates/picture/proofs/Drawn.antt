@@ -19,13 +19,14 @@ use Rattle.paths.specs.Offered.{reached}
 use Rattle.paths.specs.Entries.{checkEnds, reachedCheck, reachedWritten, reachedOut}
 use Rattle.paths.proofs.Reached.{reached-length}
 use Rattle.sweeps.specs.Box.{largest, between, far}
+use Rattle.sweeps.specs.Sweep.{Ready}
 use Rattle.sweeps.specs.declared.Between.{Between}
 use Rattle.sweeps.proofs.Box.{far-in}
 use Rattle.routes.proofs.Ends.{ends-granted}
 use Rattle.text.specs.Text.{pieces}
-use Rattle.picture.specs.Picture.{symbolOf, symbolIn, symbols, Drawn, layerText, endsText, picture}
+use Rattle.picture.specs.Picture.{symbolOf, symbolIn, symbols, layerText, endsText, picture}
 
-pub narrow : {S : Sizes} {drawn : List ℕ} {g : Between} → Drawn S drawn g → Inside largest (far g)
+pub narrow : {S : Sizes} {drawn : List ℕ} {g : Between} → Ready S drawn g → Inside largest (far g)
 narrow {S} {g = g} d = far-in S g (d .sized) (d .held)
 
 pub symbols-length : (m : Map) (s e : ℕ) → length (symbols m s e) ≡ nodes (m .sizes)

@@ -2,17 +2,16 @@
 -- down, or to the same place in the next layer. Assumes nothing.
 use mathlib.Core.Bool.{cond}
 use mathlib.Core.List.{List, [], _∷_, _++_}
-use mathlib.Core.Path.{_≡_}
 use Prim.Native.Nat.{ℕ, _+_}
 use lib.Dec.{eqb, ltb}
-use lib.ListN.{length, getD}
+use lib.ListN.{getD}
 use Rattle.mesh.specs.Tools.{one, table}
-use Rattle.mesh.specs.Mesh.{InRange, nodes, placeOf}
+use Rattle.mesh.specs.Mesh.{nodes, placeOf}
 use Rattle.mesh.specs.Cells.{Map, mayPass}
 use Rattle.mesh.specs.declared.Sizes.{Sizes}
 use Rattle.mesh.specs.declared.Place.{Place}
 use Rattle.paths.specs.Offered.{reached}
-use Rattle.sweeps.specs.Box.{between, gone, rowRun, Held}
+use Rattle.sweeps.specs.Box.{between, gone, rowRun}
 use Rattle.sweeps.specs.declared.Run.{Run}
 use Rattle.sweeps.specs.declared.Between.{Between}
 use Rattle.text.specs.Text.{ascii, told, pieces}
@@ -26,12 +25,6 @@ symbolIn m s e k = symbolOf s e k (getD (reached m (placeOf (m .sizes) s) (place
 
 unfoldable pub symbols : Map → ℕ → ℕ → List ℕ
 symbols m s e = table (symbolIn m s e) (nodes (m .sizes))
-
--- a symbol for each node of a mesh, and a box in it
-pub record Drawn (S : Sizes) (drawn : List ℕ) (g : Between) : Type 0 where
-  pub sized : InRange S
-  pub whole : length drawn ≡ nodes S
-  pub held : Held S g
 
 -- a coordinate, told by one form where it has one digit and by another where it has two
 unfoldable pub toldWide : List ℕ → List ℕ → ℕ → List ℕ

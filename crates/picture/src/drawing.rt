@@ -14,8 +14,9 @@ ghost use Rattle.mesh.specs.Cells.{mapOf};
 ghost use Rattle.mesh.specs.declared.Answer.the-variants.{Done};
 ghost use Rattle.paths.specs.Entries.{checkEnds};
 ghost use Rattle.sweeps.specs.Box.{OnAxis};
+ghost use Rattle.sweeps.specs.Sweep.{Ready};
 ghost use Rattle.text.specs.Text.{pieces, Said};
-ghost use Rattle.picture.specs.Picture.{toldWide, Drawn, symbolAt, columnText, rowText, rowIn, layerHead, layerText, picture};
+ghost use Rattle.picture.specs.Picture.{toldWide, symbolAt, columnText, rowText, rowIn, layerHead, layerText, picture};
 
 // A coordinate, told by one form where it has one digit and by another where it has two.
 fn tell_wide(one: &[u8], two: &[u8], n: usize, out: &mut [u8], at: usize) -> usize
@@ -56,7 +57,7 @@ fn say_row(drawn: &[u8], y: usize, row: Run, out: &mut [u8], at: usize) -> usize
 
 // All rows of the layer after c steps.
 fn rows(s: Sizes, drawn: &[u8], g: Between, c: usize, out: &mut [u8], at: usize) -> usize
-    requires { ⌜ Drawn s (now drawn) g × (c ≤ g .z .steps) × (at + 2144 ≤ length (now out)) ⌝ }
+    requires { ⌜ Ready s (now drawn) g × (c ≤ g .z .steps) × (at + 2144 ≤ length (now out)) ⌝ }
     ensures { λ r. ⌜ Said (now (out .entry)) at (pieces (rowIn s (now (drawn .entry)) g c) (g .y .steps + 1)) (now (out .exit)) r
         × (r ≤ at + 2144) ⌝ }
 {
@@ -94,7 +95,7 @@ fn layer_head(z: usize, x: Run, out: &mut [u8], at: usize) -> usize
 
 // All layers.
 fn layers(s: Sizes, drawn: &[u8], g: Between, out: &mut [u8], at: usize) -> usize
-    requires { ⌜ Drawn s (now drawn) g × (at + 40880 ≤ length (now out)) ⌝ }
+    requires { ⌜ Ready s (now drawn) g × (at + 40880 ≤ length (now out)) ⌝ }
     ensures { λ r. ⌜ Said (now (out .entry)) at (pieces (layerText s (now (drawn .entry)) g) (g .z .steps + 1)) (now (out .exit)) r
         × (r ≤ at + 40880) ⌝ }
 {

@@ -45,10 +45,8 @@ pub fn verdict(s: Sizes, cells: &[u8], start: usize, end: usize) -> Verdict
     let e = s.place(end);
     let h = hops(p, e);
     let o = offered(s, cells, p, e);
-    if o == 0 {
-        if h > 0 {
-            return Verdict::NotGranted(Refusal::NoPath);
-        }
+    if (o == 0) & (h > 0) {
+        return Verdict::NotGranted(Refusal::NoPath);
     }
     Verdict::Granted(h, o)
 }

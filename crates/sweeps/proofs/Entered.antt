@@ -10,19 +10,18 @@ use lib.Dec.{ltb}
 use borrow.Author.Tests.{ltb-true}
 use Rattle.mesh.specs.Tools.{bit}
 use Rattle.mesh.specs.Mesh.{X, Y, Z, place, number}
-use Rattle.mesh.specs.Cells.{Map}
 use Rattle.mesh.proofs.Bits.{bit-le}
 use Rattle.mesh.specs.declared.Sizes.{Sizes}
 use Rattle.mesh.specs.declared.Place.{Place}
 use Rattle.paths.proofs.Differences.{place-eq}
-use Rattle.sweeps.specs.Box.{reach, far, Within}
-use Rattle.sweeps.specs.Sweep.{nearer, wayIn, waysOf, Seen, flat, spot, prior, Holds, Spread, entered, waysIn}
+use Rattle.sweeps.specs.Box.{reach, far}
+use Rattle.sweeps.specs.Sweep.{wayIn, waysOf, flat, spot, prior, Holds, entered, waysIn}
 use Rattle.sweeps.specs.declared.Ways.{Ways}
 use Rattle.sweeps.specs.declared.Between.{Between}
 
 module _ (S : Sizes) (g : Between) (bytes : List ℕ) (t : Place) (left x y z : ℕ) where
   -- the byte one step nearer says whether there is a step left and what is seen there
-  entered-is : (p : Place) (v : Bool) → (0 < left → place (t .x - x) (t .y - y) (t .z - z) ≡ p)
+  pub entered-is : (p : Place) (v : Bool) → (0 < left → place (t .x - x) (t .y - y) (t .z - z) ≡ p)
       → (0 < left → getD bytes (number S (reach g p)) 0 ≡ bit v)
       → entered S g bytes t left x y z ≡ bit (ltb 0 left && v)
   entered-is p v e h = split (ltb 0 left) refl
@@ -41,21 +40,6 @@ module _ (S : Sizes) (g : Between) (bytes : List ℕ) (t : Place) (left x y z : 
 
 pub ways-le : (w : Ways) (seen : Place → Bool) (t : Place) → w ≡ waysOf seen t → (w .x ≤ 1) × (w .y ≤ 1) × (w .z ≤ 1)
 ways-le w seen t e = rw e (bit-le (wayIn seen t X), bit-le (wayIn seen t Y), bit-le (wayIn seen t Z))
-
--- where every node of the box has its byte
-pub ways-in : (m : Map) (g : Between) (n : ℕ) (old new : List ℕ) → Spread m g n old new → (seen : Place → Bool) → Seen m g seen
-    → (t : Place) → Within g t → t .z < n → waysIn (m .sizes) g new t ≡ waysOf seen t
-ways-in m g n old new P seen Q t w l = rw (
-  entered-is (m .sizes) g new t (t .x) 1 0 0 (nearer t X) (seen (nearer t X))
-      (λ h. place-eq (place (t .x - 1) (t .y - 0) (t .z - 0)) (nearer t X) refl (omega arith) (omega arith))
-      (λ h. P .at seen Q (nearer t X) (omega (arith, w)) l),
-  entered-is (m .sizes) g new t (t .y) 0 1 0 (nearer t Y) (seen (nearer t Y))
-      (λ h. place-eq (place (t .x - 0) (t .y - 1) (t .z - 0)) (nearer t Y) (omega arith) refl (omega arith))
-      (λ h. P .at seen Q (nearer t Y) (omega (arith, w)) l),
-  entered-is (m .sizes) g new t (t .z) 0 0 1 (nearer t Z) (seen (nearer t Z))
-      (λ h. place-eq (place (t .x - 0) (t .y - 0) (t .z - 1)) (nearer t Z) (omega arith) (omega arith) refl)
-      (λ h. P .at seen Q (nearer t Z) (omega (arith, w)) (omega arith)),
-)
 
 -- where each layer goes over the one before: the ways into the far corner, x and y in the last layer, z in the one before
 pub flat-ways : (S : Sizes) (g : Between) (seen : Place → Bool) (old new : List ℕ) → Holds S g (prior seen (g .z .steps)) old

@@ -1,26 +1,23 @@
--- Layer after layer: each over the one before, in one row of bytes, or each at its own nodes. Assumes nothing.
+-- Layer after layer: what is seen in each, wherever it stands; and each over the one before, in one row of bytes. Assumes nothing.
 use mathlib.Core.Path.{_≡_, refl, sym, ap, _∙_, subst}
-use mathlib.Core.Logic.{inl, inr}
 use mathlib.Core.Bool.{Bool, true, false, _&&_, _||_}
 use mathlib.Core.List.{List}
 use Prim.Native.Nat.{ℕ, zero, suc, _+_, _-_, _*_, _<_, _≤_}
-use native.Mathlib.Nat.{eq-or-lt-of-le, mul-add}
+use native.Mathlib.Nat.{mul-add}
 use native.Mathlib.Numerals.{add-one}
 use native.Mathlib.Omega.{arith}
 use lib.ListN.{length, getD, set, replicate, length-set, length-replicate, getD-replicate}
 use lib.Seq.{getD-set-same, getD-set-other}
 use lib.Dec.{ltb, eqb}
 use borrow.Author.Tests.{lt-ltb, eqb-true, ne-eqb}
-use Rattle.mesh.specs.Tools.{bit, any}
-use Rattle.mesh.specs.Mesh.{InRange, place, nodes, number}
+use Rattle.mesh.specs.Tools.{bit}
+use Rattle.mesh.specs.Mesh.{InRange, place, number}
 use Rattle.mesh.specs.Cells.{Map, cellAt, mayPass}
-use Rattle.mesh.proofs.Tests.{T-any, T-eq, T-no, tried}
 use Rattle.mesh.proofs.Numbers.{number-lt, digit-lt, layer-le}
 use Rattle.mesh.specs.declared.Sizes.{Sizes}
 use Rattle.mesh.specs.declared.Place.{Place}
-use Rattle.paths.proofs.Differences.{place-eq}
 use Rattle.sweeps.specs.Box.{gone, reach, Within, Held}
-use Rattle.sweeps.specs.Sweep.{Seen, spot, flat, prior, Room, Laid, Wave, Layer, Holds, Layers, Blank, Spread, Ready, seed}
+use Rattle.sweeps.specs.Sweep.{Seen, spot, flat, prior, Room, Laid, Wave, Layer, Holds, Layers, Ready, seed}
 use Rattle.sweeps.proofs.Box.{reach-in, gone-lt}
 use Rattle.sweeps.proofs.Rows.{spot-same}
 use Rattle.sweeps.specs.declared.Between.{Between}
@@ -31,7 +28,7 @@ pub seed-length : (corner : ℕ) → length (seed corner) ≡ 256
 seed-length corner = length-set (replicate 256 0) corner 1 ∙ length-replicate {A = ℕ} 256 0
 
 -- only the corner is seen
-seeded-at : (S : Sizes) (g : Between) → Held S g → (bytes : List ℕ) → spot S g 0 0 0 < length bytes
+pub seeded-at : (S : Sizes) (g : Between) → Held S g → (bytes : List ℕ) → spot S g 0 0 0 < length bytes
     → ((a b : ℕ) → a ≤ g .x .steps → b ≤ g .y .steps → getD bytes (spot S g a b 0) 0 ≡ 0)
     → (a b : ℕ) → a ≤ g .x .steps → b ≤ g .y .steps → getD (set bytes (spot S g 0 0 0) 1) (spot S g a b 0) 0 ≡ bit (eqb a 0 && eqb b 0)
 seeded-at S g h bytes l blank zero zero la lb = getD-set-same bytes (spot S g 0 0 0) 1 0 l
@@ -59,7 +56,7 @@ module _ (m : Map) (g : Between) (seen : Place → Bool) (Q : Seen m g seen) (c 
       ∙ rw (prior-is seen a b c off)
 
   -- the bytes of the layer before, wherever they stand, make this one
-  wave : (f : Between) → f .x .steps ≡ g .x .steps → f .y .steps ≡ g .y .steps → (base k behind first : ℕ) (old : List ℕ) → first ≡ bit (eqb c 0)
+  pub wave : (f : Between) → f .x .steps ≡ g .x .steps → f .y .steps ≡ g .y .steps → (base k behind first : ℕ) (old : List ℕ) → first ≡ bit (eqb c 0)
       → (c ≡ 0 → behind ≡ k)
       → ((a b : ℕ) → base + spot (m .sizes) f a b k ≡ spot (m .sizes) g a b c)
       → ((a b : ℕ) → a ≤ g .x .steps → b ≤ g .y .steps → getD old (spot (m .sizes) f a b behind) 0 ≡ bit (prior seen c a b))
@@ -147,107 +144,3 @@ layers-none m g i old = record { holds = λ seen Q H. H; size = refl }
 pub layers-more : (m : Map) (g : Between) (i j n : ℕ) (old mid new : List ℕ) → Layers m g i j old mid → Layers m g j n mid new
     → Layers m g i n old new
 layers-more m g i j n old mid new L K = record { holds = λ seen Q H. K .holds seen Q (L .holds seen Q H); size = K .size ∙ L .size }
-
--- ---- each layer at its own nodes
-
-module _ (m : Map) (g : Between) (r : Ready (m .sizes) (m .cells) g) where
-  node-lt : (t : Place) → Within g t → number (m .sizes) (reach g t) < nodes (m .sizes)
-  node-lt t w = number-lt (m .sizes) (reach g t) (reach-in (m .sizes) g t (r .held) w)
-
-  pub room-of : (bytes : List ℕ) → nodes (m .sizes) ≤ length bytes → Room (m .sizes) g bytes
-  room-of bytes l = record { sized = r .sized; held = r .held; fits = λ t w. omega (arith, node-lt t w) }
-
-  pub spread-laid : (c behind : ℕ) (bytes : List ℕ) → c ≤ g .z .steps → behind ≡ c - 1 → nodes (m .sizes) ≤ length bytes
-      → Laid (m .sizes) (m .cells) bytes g 0 c behind
-  spread-laid c behind bytes hc e l = record {
-    room = room-of bytes l;
-    here = hc;
-    back = omega arith;
-    celled = λ a b la lb. omega (arith, r .whole, node-lt (place a b c) (record { x-le = la; y-le = lb; z-le = hc }));
-  }
-
-  module _ (old : List ℕ) (seeds : (a b : ℕ) → a ≤ g .x .steps → b ≤ g .y .steps → getD old (spot (m .sizes) g a b 0) 0 ≡ bit (eqb a 0 && eqb b 0)) where
-    pub spread-more : (mid new : List ℕ) (c behind first : ℕ) → c ≤ g .z .steps → behind ≡ c - 1 → first ≡ bit (eqb c 0) → Spread m g c old mid
-        → Layer (m .sizes) (m .cells) mid new g 0 c behind first (g .y .steps + 1) → Spread m g (c + 1) old new
-    spread-more mid new c behind first hc e f P L = record {
-      at = λ seen Q t w l. elim (eq-or-lt-of-le (le-of l)) [
-        | inl q ↦
-            subst (λ (u : Place). getD new (number (m .sizes) (reach g u)) 0 ≡ bit (seen u)) (sym (place-eq t (place (t .x) (t .y) c) refl refl q))
-            (L .at (prior seen c) (λ a b. seen (place a b c))
-            (wave m g seen Q c hc g refl refl 0 c behind first mid f (λ z. omega arith) (λ a b. omega arith) (before seen Q c behind hc e P))
-            (t .x) (t .y) (w .x-le) (omega (arith, w .y-le)) (w .y-le))
-        | inr k ↦ L .kept (number (m .sizes) (reach g t))
-            (λ a b la lb hb q. omega (arith, spot-same (m .sizes) g (r .held) (t .x) (t .y) (t .z) a b c w (record { x-le = la; y-le = hb; z-le = hc }) q))
-            ∙ P .at seen Q t w k
-      ];
-      kept = λ i h. L .kept i (λ a b la lb hb q. h (place a b c) (record { x-le = la; y-le = hb; z-le = hc }) (omega arith) q)
-          ∙ P .kept i (λ t w l q. h t w (omega arith) q);
-      size = L .size ∙ P .size;
-    }
-      where
-        le-of : {i n : ℕ} → i < n + 1 → i ≤ n
-        le-of h = omega arith
-
-        before : (seen : Place → Bool) → Seen m g seen → (c behind : ℕ) → c ≤ g .z .steps → behind ≡ c - 1 → Spread m g c old mid
-            → (a b : ℕ) → a ≤ g .x .steps → b ≤ g .y .steps → getD mid (spot (m .sizes) g a b behind) 0 ≡ bit (prior seen c a b)
-        before seen Q zero behind hc e P a b la lb =
-            rw e (P .kept (spot (m .sizes) g a b 0) (λ t w l q. omega arith) ∙ seeds a b la lb)
-        before seen Q (suc c) behind hc e P a b la lb =
-            let q : behind ≡ c = omega arith in
-            rw q (P .at seen Q (place a b c) (record { x-le = la; y-le = lb; z-le = omega arith }) (omega arith))
-
-  pub spread-none : (old : List ℕ) → Spread m g 0 old old
-  spread-none old = record { at = λ seen Q t w l. absurd (omega arith); kept = λ i h. refl; size = refl }
-
-  -- from bytes that are 0, with the corner's set
-  module _ (old : List ℕ) (corner : ℕ) (e : corner ≡ spot (m .sizes) g 0 0 0) where
-    pub spread-seeds : nodes (m .sizes) ≤ length old → Blank (m .sizes) old → (a b : ℕ) → a ≤ g .x .steps → b ≤ g .y .steps
-        → getD (set old corner 1) (spot (m .sizes) g a b 0) 0 ≡ bit (eqb a 0 && eqb b 0)
-    spread-seeds l blank = rw e (seeded-at (m .sizes) g (r .held) old (omega (arith, inside 0 0 (omega arith) (omega arith)))
-        (λ a b la lb. blank (spot (m .sizes) g a b 0) (inside a b la lb)))
-      where
-        inside : (a b : ℕ) → a ≤ g .x .steps → b ≤ g .y .steps → spot (m .sizes) g a b 0 < nodes (m .sizes)
-        inside a b la lb = node-lt (place a b 0) (record { x-le = la; y-le = lb; z-le = omega arith })
-
-    pub spread-from : (new : List ℕ) (n : ℕ) → 0 < n → Spread m g n (set old corner 1) new → Spread m g n old new
-    spread-from new n h P = record {
-      at = P .at;
-      kept = λ i f. P .kept i f ∙ getD-set-other old corner i 1 0
-          (λ q. f (place 0 0 0) (record { x-le = omega arith; y-le = omega arith; z-le = omega arith }) h (q ∙ e));
-      size = P .size ∙ length-set old corner 1;
-    }
-
--- where each node of the box has the value that is right there, no right value is lost
-pub spread-safe : (m : Map) (g : Between) (old new : List ℕ) → Spread m g (g .z .steps + 1) old new → (seen : Place → Bool)
-    → Seen m g seen → (k x : ℕ)
-    → ((t : Place) → Within g t → k ≡ number (m .sizes) (reach g t) → bit (seen t) ≡ x) → getD old k 0 ≡ x → getD new k 0 ≡ x
-spread-safe m g old new P seen Q k x right e = elim (tried (any (g .x .steps + 1) on-x)) [
-  | inl u ↦
-      let (a, la, v) = T-any (g .x .steps + 1) on-x .0 u in
-      let (b, lb, w) = T-any (g .y .steps + 1) (on-y a) .0 v in
-      let (c, lc, t) = T-any (g .z .steps + 1) (on-z a b) .0 w in
-      let q : k ≡ spot (m .sizes) g a b c = T-eq k (spot (m .sizes) g a b c) .0 t in
-      let i : Within g (place a b c) = record { x-le = omega arith; y-le = omega arith; z-le = omega arith } in
-      ap (λ (j : ℕ). getD new j 0) q ∙ P .at seen Q (place a b c) i lc ∙ right (place a b c) i q
-  | inr u ↦
-      P .kept k (λ t i l q. T-no (any (g .x .steps + 1) on-x) .0 u
-      (T-any (g .x .steps + 1) on-x .1 (
-        t .x,
-        omega (arith, i .x-le),
-        T-any (g .y .steps + 1) (on-y (t .x)) .1 (
-          t .y,
-          omega (arith, i .y-le),
-          T-any (g .z .steps + 1) (on-z (t .x) (t .y)) .1 (t .z, l, T-eq k (number (m .sizes) (reach g t)) .1 q),
-        ),
-      )))
-      ∙ e
-]
-  where
-    on-z : ℕ → ℕ → ℕ → Bool
-    on-z a b c = eqb k (spot (m .sizes) g a b c)
-
-    on-y : ℕ → ℕ → Bool
-    on-y a b = any (g .z .steps + 1) (on-z a b)
-
-    on-x : ℕ → Bool
-    on-x a = any (g .y .steps + 1) (on-y a)

@@ -59,7 +59,7 @@ prior seen (suc c) a b = seen (place a b c)
 
 -- ---- contracts
 
--- a map that was checked, and a box in it
+-- a byte for each node of a mesh, and a box in it
 pub record Ready (S : Sizes) (cells : List ℕ) (g : Between) : Type 0 where
   pub sized : InRange S
   pub whole : length cells ≡ nodes S
@@ -143,20 +143,6 @@ pub record Layers (m : Map) (g : Between) (i n : ℕ) (old new : List ℕ) : Typ
 -- the bytes before the first layer: only the corner is seen
 abbrev pub seed : ℕ → List ℕ
 seed corner = set (replicate 256 0) corner 1
-
--- the first n bytes are 0 or 1
-abbrev pub Bits : List ℕ → ℕ → Type 0
-Bits bytes n = (k : ℕ) → k < n → getD bytes k 0 ≤ 1
-
--- no byte is 1 yet
-abbrev pub Blank : Sizes → List ℕ → Type 0
-Blank S bytes = (k : ℕ) → k < nodes S → getD bytes k 0 ≡ 0
-
--- the first n layers, each at its own nodes, and no other byte
-pub record Spread (m : Map) (g : Between) (n : ℕ) (old new : List ℕ) : Type 0 where
-  pub at : (seen : Place → Bool) → Seen m g seen → (t : Place) → Within g t → t .z < n → getD new (number (m .sizes) (reach g t)) 0 ≡ bit (seen t)
-  pub kept : (i : ℕ) → ((t : Place) → Within g t → t .z < n → i ≡ number (m .sizes) (reach g t) → ⊥) → getD new i 0 ≡ getD old i 0
-  pub size : length new ≡ length old
 
 -- the byte of the node x, y and z steps nearer to the corner than t, if a step is left
 abbrev pub entered : Sizes → Between → List ℕ → Place → ℕ → ℕ → ℕ → ℕ → ℕ

@@ -12,7 +12,7 @@ ghost use Rattle.sweeps.specs.Box.{largest, run, between, gone, reach, f
 ghost use Rattle.sweeps.specs.Sweep.{flat};
 
 // One axis, from one coordinate to another.
-pub fn run(from: usize, to: usize) -> Run
+fn run(from: usize, to: usize) -> Run
     requires { ⌜ (from < 16) × (to < 16) ⌝ }
     ensures { λ r. ⌜ r ≡ run from to ⌝ }
 {

@@ -24,7 +24,7 @@ ghost use Rattle.sweeps.specs.Box.{far};
 ghost use Rattle.sweeps.specs.Sweep.{Ready, Ends, WaysTo, flagOf};
 
 // The ways into the far corner of a box. The layer before the last is read where the last one goes over it.
-pub fn ways(s: Sizes, cells: &[u8], g: Between) -> Ways
+fn ways(s: Sizes, cells: &[u8], g: Between) -> Ways
     requires { ⌜ Ready s (now cells) g ⌝ }
     ensures { λ r. ⌜ WaysTo (mapOf s (now (cells .entry))) g (far g) r ⌝ }
 {

@@ -1,3 +1,4 @@
+pub mod Layers
 pub mod Following
 pub mod Trails
 pub mod Routing

@@ -24,7 +24,7 @@ use Rattle.paths.specs.Offered.{route}
 use Rattle.paths.specs.Entries.{checkEnds, verdictCheck, routeCheck, routeAnswer, routeWritten, routeOut}
 use Rattle.paths.proofs.Offered.{route-length}
 use Rattle.sweeps.specs.Box.{between, reach}
-use Rattle.sweeps.specs.Sweep.{Spread}
+use Rattle.trails.specs.Spread.{Spread}
 use Rattle.trails.specs.Table.{trail, Routed}
 use Rattle.trails.proofs.Trails.{route-trail}
 

@@ -29,13 +29,14 @@ use Rattle.paths.specs.Entries.{checkEnds, reachedCheck, reachedAnswer, reached
 use Rattle.paths.proofs.Differences.{hops-is}
 use Rattle.paths.proofs.Reached.{reached-length, reached-byte}
 use Rattle.sweeps.specs.Box.{between, reach, far, Within}
-use Rattle.sweeps.specs.Sweep.{entry, Spread, waysOf, Bits}
+use Rattle.sweeps.specs.Sweep.{entry, waysOf}
 use Rattle.sweeps.proofs.Box.{held, reach-in}
 use Rattle.sweeps.proofs.Runs.{reach-far}
 use Rattle.sweeps.proofs.Forward.{behind, boxed, behind-is, from-start, end-entry}
-use Rattle.sweeps.proofs.Layers.{spread-safe}
 use Rattle.sweeps.specs.declared.Ways.{Ways}
 use Rattle.sweeps.specs.declared.Between.{Between}
+use Rattle.trails.specs.Spread.{Bits, Spread}
+use Rattle.trails.proofs.Layers.{spread-safe}
 use Rattle.trails.proofs.Trails.{summed, far-zero}
 
 module _ (m : Map) (s e : Place) (s-in : Inside (m .sizes) s) (e-in : Inside (m .sizes) e) (ends : T (mayEnd (cellAt m e))) where

@@ -1,1 +1,2 @@
+pub mod Spread
 pub mod Table

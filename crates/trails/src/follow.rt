@@ -16,7 +16,8 @@ ghost use Rattle.mesh.specs.Mesh.{number};
 ghost use Rattle.mesh.specs.Cells.{mapOf};
 ghost use Rattle.mesh.specs.Fill.{Filled};
 ghost use Rattle.sweeps.specs.Box.{largest, reach, Within};
-ghost use Rattle.sweeps.specs.Sweep.{Ends, Room, Blank};
+ghost use Rattle.sweeps.specs.Sweep.{Ends, Room};
+ghost use Rattle.trails.specs.Spread.{Blank};
 ghost use Rattle.trails.specs.Table.{nearest, trail, Routed};
 
 // Nothing is seen yet.

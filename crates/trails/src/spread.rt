@@ -18,7 +18,8 @@ ghost use Rattle.mesh.specs.Cells.{mapOf};
 ghost use Rattle.mesh.specs.Fill.{Filled};
 ghost use Rattle.paths.specs.Offered.{reached};
 ghost use Rattle.sweeps.specs.Box.{far};
-ghost use Rattle.sweeps.specs.Sweep.{Ready, Ends, WaysTo, Blank, Spread, Bits};
+ghost use Rattle.sweeps.specs.Sweep.{Ready, Ends, WaysTo};
+ghost use Rattle.trails.specs.Spread.{Bits, Blank, Spread};
 
 // Every layer of a box, each at its own nodes, and the ways into the far corner.
 pub fn spread(s: Sizes, cells: &[u8], g: Between, bytes: &mut [u8]) -> Ways
@@ -44,10 +45,8 @@ fn clear(out: &mut [u8], n: usize)
     requires { ⌜ n ≤ length (now out) ⌝ }
     ensures { λ _. ⌜ Filled (λ i. i) (λ i. 0) (now (out .entry)) (now (out .exit)) n ⌝ }
 {
-    let mut i = 0;
-    while i < n {
+    for i in 0..n {
         out[i] = 0;
-        i += 1;
     }
 }
 
@@ -67,10 +66,8 @@ pub fn total(out: &[u8], n: usize) -> usize
     ensures { λ r. ⌜ r ≡ sum n (λ k. getD (now (out .entry)) k 0) ⌝ }
 {
     let mut t: u16 = 0;
-    let mut i = 0;
-    while i < n {
+    for i in 0..n {
         t += out[i] as u16;
-        i += 1;
     }
     t as usize
 }

@@ -1,36 +1,44 @@
 -- `routes::entries::verdict` meets its contract: a start that is not the end has a path exactly if something is offered. Assumes nothing.
-use mathlib.Core.Path.{_≡_, _∙_, sym, subst}
-use mathlib.Core.Bool.{true, false}
-use Prim.Native.Nat.{_<_}
+use mathlib.Core.Path.{_≡_, refl, _∙_, sym, subst}
+use mathlib.Core.Bool.{Bool, true, false, _&&_}
+use native.Mathlib.Nat.{lt-of-not-le}
 use native.Mathlib.Omega.{arith}
 use borrow.Author.Needs.{needs}
+use borrow.Author.Tests.{ltb-false, eqb-false}
 use denote.Ref.{now}
+use lib.Dec.{eqb, ltb}
 use Rattle.mesh.specs.Mesh.{placeOf, Inside}
 use Rattle.mesh.specs.Cells.{Map, mapOf}
-use Rattle.mesh.proofs.Tests.{bool-ext, holds-true}
+use Rattle.mesh.proofs.Tests.{T-and, T-eq, T-lt, bool-ext, holds-true}
 use Rattle.mesh.specs.declared.Place.{Place}
 use Rattle.paths.specs.Differences.{hops}
 use Rattle.paths.specs.Paths.{leads}
 use Rattle.paths.specs.Offered.{offered}
-use Rattle.paths.specs.Entries.{verdictAnswer}
 use Rattle.paths.proofs.Differences.{hops-zero}
 use Rattle.paths.proofs.Offered.{offered-none, offered-leads}
 use Rattle.paths.proofs.Reached.{start-reached}
-use Rattle.paths.specs.declared.Verdict.the-variants.{Granted}
 use Rattle.sweeps.proofs.Box.{in-largest}
 use Rattle.routes.proofs.Ends.{Past, past-ends, verdict-refused, verdict-10, verdict-0}
 use Rattle.routes.proofs.entries.verdict.Statement.{statement}
 use Rattle.routes.proofs.entries.verdict.Tie as tie
 
 module _ (m : Map) (p e : Place) (i : Inside (m .sizes) p) where
-  none : offered m e p ≡ 0 → 0 < hops p e → leads m e p e ≡ false
-  none z h = bool-ext (leads m e p e) false (λ t. offered-none m e p i (λ f. omega (arith, hops-zero p e .1 f)) z t) (λ t. absurd t)
+  none : eqb (offered m e p) 0 && ltb 0 (hops p e) ≡ true → leads m e p e ≡ false
+  none h =
+      let (z, l) = simp (T-and, T-eq, T-lt) at (holds-true (eqb (offered m e p) 0 && ltb 0 (hops p e)) .1 h) in
+      bool-ext (leads m e p e) false (λ t. offered-none m e p i (λ f. omega (arith, hops-zero p e .1 f)) z t) (λ t. absurd t)
 
-  some : 0 < offered m e p → leads m e p e ≡ true
-  some h = holds-true (leads m e p e) .0 (offered-leads m e p i h)
-
-  here : hops p e ≡ 0 → leads m e p e ≡ true
-  here h = subst (λ (q : Place). leads m e p q ≡ true) (hops-zero p e .0 h) (holds-true (leads m e p p) .0 (start-reached m e p i))
+  some : eqb (offered m e p) 0 && ltb 0 (hops p e) ≡ false → leads m e p e ≡ true
+  some h = split (eqb (offered m e p) 0) refl h
+    where
+      split : (b : Bool) → eqb (offered m e p) 0 ≡ b → b && ltb 0 (hops p e) ≡ false → leads m e p e ≡ true
+      split true z f =
+          let l = ltb-false 0 (hops p e) f in
+          let here : hops p e ≡ 0 = omega arith in
+          subst (λ (q : Place). leads m e p q ≡ true) (hops-zero p e .0 here) (holds-true (leads m e p p) .0 (start-reached m e p i))
+      split false z f =
+          let n = eqb-false (offered m e p) 0 z in
+          holds-true (leads m e p e) .0 (offered-leads m e p i (lt-of-not-le (λ h. n (omega arith))))
 
 -- past the checks
 past : (c : tie.After-enum-told) → let a = c .before .before .before .before .args in Past (a .s) (now (a .cells)) (a .start) (a .end)
@@ -46,14 +54,6 @@ set-is : (c : tie.After-offered) →
     let a = c .before .before .before .before .before .before .before .before .args in
     c .offered .result ≡ offered (mapOf (a .s) (now (a .cells))) (placeOf (a .s) (a .end)) (placeOf (a .s) (a .start))
 set-is c = rw (← c .before .before .before .place .ensures, ← c .before .before .place2 .ensures) (c .offered .ensures)
-
-granted : (c : tie.After-offered) →
-    let a = c .before .before .before .before .before .before .before .before .args in
-    leads (mapOf (a .s) (now (a .cells))) (placeOf (a .s) (a .end)) (placeOf (a .s) (a .start)) (placeOf (a .s) (a .end)) ≡ true
-    → Granted (c .before .hops .result) (c .offered .result) ≡ verdictAnswer (a .s) (now (a .cells)) (a .start) (a .end)
-granted c l =
-    let a = c .before .before .before .before .before .before .before .before .args in
-    rw (counted (c .before), set-is c) (verdict-0 (a .s) (now (a .cells)) (a .start) (a .end) (past (c .before .before .before .before) .0) l)
 
 returns : tie.Need-returns
 returns c =
@@ -79,29 +79,23 @@ offered-requires c κs = rw (c .before .before .place .ensures, c .before .place
 
 returns-2 : tie.Need-returns-2
 returns-2 c =
-    let o = c .before .before in
+    let o = c .before in
     let a = o .before .before .before .before .before .before .before .before .args in
     let k = o .before .before .before .before in
     verdict-10 (a .s) (now (a .cells)) (a .start) (a .end) (past k .0)
     (none (mapOf (a .s) (now (a .cells))) (placeOf (a .s) (a .start)) (placeOf (a .s) (a .end)) (past k .1 .start-in)
-    (sym (set-is o) ∙ c .before .if1 .taken) (rw (counted (o .before)) at (c .if2 .taken)))
+    (rw (set-is o, counted (o .before)) at (c .if1 .taken)))
 
 returns-3 : tie.Need-returns-3
 returns-3 c =
-    let o = c .before .before in
-    let a = o .before .before .before .before .before .before .before .before .args in
-    let z : o .before .hops .result ≡ 0 = omega arith in
-    granted o (here (mapOf (a .s) (now (a .cells))) (placeOf (a .s) (a .start)) (placeOf (a .s) (a .end))
-    (past (o .before .before .before .before) .1 .start-in) (sym (counted (o .before)) ∙ z))
-
-returns-4 : tie.Need-returns-4
-returns-4 c =
     let o = c .before in
     let a = o .before .before .before .before .before .before .before .before .args in
-    granted o (some (mapOf (a .s) (now (a .cells))) (placeOf (a .s) (a .start)) (placeOf (a .s) (a .end))
-    (past (o .before .before .before .before) .1 .start-in) (omega (arith, set-is o)))
+    let k = o .before .before .before .before in
+    rw (counted (o .before), set-is o) (verdict-0 (a .s) (now (a .cells)) (a .start) (a .end) (past k .0)
+    (some (mapOf (a .s) (now (a .cells))) (placeOf (a .s) (a .start)) (placeOf (a .s) (a .end)) (past k .1 .start-in)
+    (rw (set-is o, counted (o .before)) at (c .if1 .left))))
 
 pub verdict-spec : {M : Type 1} → statement M
 verdict-spec =
     tie.close (tie.spec (λ c κs. search needs) (λ c. search needs) returns (λ c. search needs) place-requires
-    place-requires-2 hops-requires offered-requires returns-2 returns-3 returns-4)
+    place-requires-2 hops-requires offered-requires returns-2 returns-3)

@@ -3,7 +3,7 @@
 use mathlib.Core.Path.{_≡_, sym, ap, _∙_, subst}
 use mathlib.Core.Bool.{not, _||_}
 use mathlib.Core.List.{List}
-use Prim.Native.Nat.{ℕ, _+_, _-_, _≤_}
+use Prim.Native.Nat.{ℕ, _+_, _≤_}
 use native.Mathlib.Omega.{arith}
 use borrow.Author.Needs.{needs}
 use borrow.Author.Tests.{not-true, not-false}
@@ -19,14 +19,15 @@ use Rattle.mesh.specs.declared.Sizes.{Sizes}
 use Rattle.paths.specs.Differences.{hops}
 use Rattle.paths.specs.Paths.{leads}
 use Rattle.sweeps.specs.Box.{between, reach, far}
-use Rattle.sweeps.specs.Sweep.{Ready, Spread, WaysTo, waysOf}
+use Rattle.sweeps.specs.Sweep.{Ready, WaysTo, waysOf}
 use Rattle.sweeps.proofs.Box.{held}
-use Rattle.sweeps.proofs.Layers.{room-of}
 use Rattle.sweeps.proofs.Entered.{ways-le}
 use Rattle.sweeps.proofs.Backward.{ahead, from-end}
 use Rattle.sweeps.specs.declared.Ways.{Ways}
 use Rattle.sweeps.specs.declared.Between.{Between}
+use Rattle.trails.specs.Spread.{Spread}
 use Rattle.trails.specs.Table.{trail}
+use Rattle.trails.proofs.Layers.{room-of}
 use Rattle.trails.proofs.Trails.{granted-is}
 use Rattle.trails.proofs.Routing.{routed-10, routed-3, routed-0, route-written}
 use Rattle.trails.proofs.follow.write_route.Statement.{statement}

@@ -12,10 +12,9 @@ use Rattle.mesh.specs.Mesh.{Inside, nodes}
 use Rattle.mesh.specs.Cells.{mapOf}
 use Rattle.mesh.proofs.Bits.{bit-le}
 use Rattle.sweeps.specs.Box.{largest, far}
-use Rattle.sweeps.specs.Sweep.{Spread}
 use Rattle.sweeps.proofs.Box.{far-in}
-use Rattle.sweeps.proofs.Layers.{room-of, spread-none, spread-laid, spread-more, spread-seeds, spread-from}
-use Rattle.sweeps.proofs.Entered.{ways-in}
+use Rattle.trails.specs.Spread.{Spread}
+use Rattle.trails.proofs.Layers.{room-of, spread-none, spread-laid, spread-more, spread-seeds, spread-from, ways-in}
 use Rattle.trails.proofs.spread.spread.Statement.{statement}
 use Rattle.trails.proofs.spread.spread.Tie as tie
 
