@@ -10,7 +10,7 @@ ghost use Rattle.mesh.specs.Cells.{mapOf};
 ghost use Rattle.mesh.specs.declared.Answer.the-variants.{Done};
 ghost use Rattle.talk.specs.Hear.{outstanding};
 ghost use Rattle.talk.specs.Promise.{workers};
-ghost use Rattle.states.specs.Scan.{Ready};
+ghost use Rattle.states.specs.Six.{Ready};
 ghost use Rattle.rounds.specs.Links.{Fit};
 ghost use Rattle.rounds.specs.Figures.{marksIn, marksHeld};
 
