@@ -28,7 +28,7 @@ use Rattle.talk.specs.State.{heard, mapIn, worksNode, pair, says}
 use Rattle.talk.specs.Sound.{within, sound, SoundOn, Sound}
 use Rattle.talk.specs.Hear.{addMarks, added, ruledAt, changed}
 use Rattle.talk.specs.Entries.{checkState, checkWord, hearAnswer}
-use Rattle.states.specs.Scan.{Ready, isOwn, isHeard, fits, quickRule}
+use Rattle.states.specs.Six.{Ready, isOwn, isHeard, fits, quickRule}
 use Rattle.talk.proofs.Decide.{sound-iff}
 use Rattle.talk.proofs.State.{pair-talks, talks-pair, speaker-lt, speaker-works}
 use Rattle.talk.proofs.Same.{works-word}

@@ -9,10 +9,11 @@ use format::MapRead;
 use mapfile::reader::read_map;
 use mesh::Sizes;
 use report::lines::first_line;
+use report::lines::refusal_line;
 use report::reporting::orientations;
-use report::reporting::report;
 use rounds::figuring::working;
 use rounds::rounds::links;
+use states::bytes::state_length;
 ghost use mathlib.Core.Path.{_≡_};
 ghost use Prim.Native.Nat.{_+_, _≤_};
 ghost use lib.ListN.{length, replicate};
@@ -70,7 +71,7 @@ fn map_text(s: Sizes, cells: &[u8], out: &mut [u8]) -> usize
     ensures { λ r. ⌜ Said (now (out .entry)) 0 (mapText (mapOf s (now (cells .entry)))) (now (out .exit)) r × (r ≤ 60672) ⌝ }
 {
     let mut state = io::large_buffer();
-    let long = 7 * s.nodes();
+    let long = state_length(s);
     let first = first_line(s, count_faulty(cells), out, 0);
     let next = legend(out, first);
     octant_texts(s, cells, &mut state[..long], out, next)
@@ -87,6 +88,6 @@ pub fn gossip(file: &[u8], out: &mut [u8]) -> usize
             let n = s.nodes();
             map_text(s, &cells[..n], out)
         }
-        MapRead::NotRead(_) => report(file, out),
+        MapRead::NotRead(r) => refusal_line(r.number() as usize, out, 0),
     }
 }

@@ -1,21 +1,20 @@
 -- What is heard at first is 8, 1 or 0, of which only 1 blocks: so one test of six bytes in one number is the mark rule. Assumes nothing.
-use mathlib.Core.Path.{_≡_, refl, sym, ap₂, _∙_, subst}
+use mathlib.Core.Path.{_≡_, refl, sym, _∙_, subst}
 use mathlib.Core.Logic.{inl, inr}
 use mathlib.Core.Bool.{Bool, true, false, cond, _||_}
-use Prim.Native.Nat.{ℕ, zero, suc, _+_, _*_, _<_}
+use Prim.Native.Nat.{ℕ, zero, suc, _<_}
 use native.Mathlib.Omega.{arith}
 use lib.Bits.{bitAnd, and-le-r, and-zero-r}
 use lib.Dec.{T, eqb}
 use Rattle.mesh.specs.Tools.{bit, implies}
 use Rattle.mesh.specs.Mesh.{InRange}
-use Rattle.mesh.specs.Steps.{ahead, reversed}
-use Rattle.rules.specs.Marks.{Kind, useless, cantReach, has, byteOf, byteBlocks, rule, ruleByte}
+use Rattle.rules.specs.Marks.{Kind, useless, cantReach, has, byteBlocks, rule, ruleByte}
 use Rattle.mesh.specs.declared.Sizes.{Sizes}
 use Rattle.mesh.proofs.Bits.{bit-le}
 use Rattle.mesh.proofs.Tests.{T-or, T-eq, all-same}
-use Rattle.rules.proofs.Rule.{rule-same}
-use Rattle.states.specs.Scan.{Bytes, six, looks}
+use Rattle.states.specs.Six.{Bytes, six, looks}
 use Rattle.making.specs.Making.{isFirst, First, firstRule, sides}
+use Rattle.states.proofs.Quick.{rule-by}
 use Rattle.states.proofs.Packed.{packed-eq, packed-and}
 use Rattle.states.proofs.Beside.{looks-rule}
 
@@ -50,9 +49,9 @@ looked b f true = first-cases (λ b. eqb (bitAnd b 1) 1 ≡ eqb b 1) refl refl r
 looked b f false = rw (and-zero-r b)
 
 -- for the numbers that the code has found
-pub shut-is : (S : Sizes) → InRange S → (o : ℕ) (h : ℕ → ℕ) → First h → (x y : ℕ) → x ≡ six h → y ≡ six (λ j. bit (looks S o j))
+pub stuck-at-first-is : (S : Sizes) → InRange S → (o : ℕ) (h : ℕ → ℕ) → First h → (x y : ℕ) → x ≡ six h → y ≡ six (λ j. bit (looks S o j))
     → eqb (bitAnd x y) y ≡ rule S o λ j. eqb (h j) 1
-shut-is S r o h f x y ex ey =
+stuck-at-first-is S r o h f x y ex ey =
     let e : ℕ → ℕ = λ j. bit (looks S o j) in
     let bh : Bytes h = λ j. first-cases (λ b. b < 256) (omega arith) (omega arith) (omega arith) (h j) (f j) in
     let be : Bytes e = λ j. omega (arith, bit-le (looks S o j)) in
@@ -68,8 +67,6 @@ blocks-first useless = first-cases (λ b. eqb b 1 ≡ byteBlocks b useless) refl
 blocks-first cantReach = first-cases (λ b. eqb b 1 ≡ byteBlocks b cantReach) refl refl refl
 
 pub first-is : (S : Sizes) (o : ℕ) (h : ℕ → ℕ) → First h → firstRule S o h ≡ ruleByte S o h
-unfolding firstRule ruleByte byteOf
-first-is S o h f = ap₂ (λ (u c : Bool). 2 * bit u + 4 * bit c)
-    (rule-same S o o (λ j. eqb (h j) 1) (λ j. byteBlocks (h j) useless) λ a _. blocks-first useless _ (f (ahead o a)))
-    (rule-same S (reversed o) (reversed o) (λ j. eqb (h j) 1) (λ j. byteBlocks (h j) cantReach)
-    λ a _. blocks-first cantReach _ (f (ahead (reversed o) a)))
+unfolding firstRule
+first-is S o h f =
+    rule-by (λ _ b. eqb b 1) S o h (λ j _. blocks-first useless (h j) (f j)) λ j _. blocks-first cantReach (h j) (f j)

@@ -5,7 +5,7 @@ use mathlib.Core.List.{List}
 use Prim.Native.Nat.{ℕ, zero, suc, _+_, _-_, _*_, _/_, _%_, _<_, _≤_}
 use native.Mathlib.Omega.{arith}
 use borrow.Author.Count.{below-more}
-use lib.Dec.{T, ltb, ltb→lt}
+use lib.Dec.{T, ltb}
 use lib.ListN.{length, getD, set, length-set}
 use lib.Seq.{getD-set-same, getD-set-other, ext-getD}
 use Rattle.mesh.specs.Tools.{bit, table}
@@ -15,16 +15,17 @@ use Rattle.mesh.specs.Cells.{Map, mapOf, faultyCell, wall, stateLength}
 use Rattle.rules.specs.Marks.{ruleByte, readBy}
 use Rattle.mesh.specs.declared.Sizes.{Sizes}
 use Rattle.mesh.specs.declared.Place.{Place}
-use Rattle.mesh.specs.declared.Next.the-variants.{At, Edge}
+use Rattle.mesh.specs.declared.Next.the-variants.{At}
 use Rattle.mesh.proofs.Tests.{cond-true}
 use Rattle.mesh.proofs.Tables.{length-table, getD-table}
 use Rattle.mesh.proofs.Numbers.{number-of, place-of}
-use Rattle.mesh.proofs.Steps.{dir-of, put, next-along}
-use Rattle.mesh.proofs.Strides.{stride, up-is, down-is}
+use Rattle.mesh.proofs.Steps.{dir-of}
+use Rattle.mesh.proofs.Strides.{stride}
 use Rattle.talk.specs.State.{own, heard}
 use Rattle.talk.specs.Sound.{faultyHears, freshHeard, freshOwn, freshByte, fresh}
-use Rattle.making.specs.Making.{freshUp, freshDown, isFirst, First, firstRule, sides, Stored, Put, Fresh}
+use Rattle.making.specs.Making.{firstOf, freshUp, freshDown, isFirst, First, firstRule, sides, Stored, Put, Fresh}
 use Rattle.talk.proofs.Rule.{ruled-same}
+use Rattle.states.proofs.Shown.{read-up, read-down}
 use Rattle.making.proofs.First.{first-read, first-sides, first-is}
 
 -- ---- two stores
@@ -48,11 +49,9 @@ module _ (S : Sizes) (cells : List ℕ) where
   abbrev m : Map
   m = mapOf S cells
 
-  read-cond : (p : Place) (j : ℕ) (t : Bool) (q : Place) (n : ℕ) → (T t → number S q ≡ n)
-      → readBy m (λ q. 0) p j (cond t (At q) Edge) ≡ cond t (bit (faultyCell (getD cells n 0))) 8
+  cell-read : (p : Place) (j : ℕ) (q : Place) → Inside S q → readBy m (λ q. 0) p j (At q) ≡ firstOf cells (number S q)
   unfolding wall
-  read-cond p j true q n e = rw (e tt) (one-or-none (faultyCell (getD cells n 0)))
-  read-cond p j false q n e = refl
+  cell-read p j q i = one-or-none (faultyCell (getD cells (number S q) 0))
 
   -- node k is faulty if its cell is
   faulty-is : (k : ℕ) → faultyCell (getD cells (number S (placeOf S k)) 0) ≡ faultyCell (getD cells k 0)
@@ -63,25 +62,16 @@ module _ (S : Sizes) (cells : List ℕ) where
   unfolding freshHeard
   heard-is k j n e = rw (e, faulty-is k)
 
-  module _ (p : Place) (i : Inside S p) (a : Axis) where
-    up-at : readBy m (λ q. 0) p (along a false) (next S p (along a false)) ≡ freshUp cells (number S p) (on p a) (span S a) (stride S a)
-    up-at =
-        ap (readBy m (λ q. 0) p (along a false)) (next-along S p i a false)
-        ∙ read-cond p (along a false) (ltb (on p a + 1) (span S a)) (put a p (on p a + 1)) (number S p + stride S a) (λ t. up-is S p i a)
+  module _ (p : Place) (i : Inside S p) (a : Axis) (k : ℕ) (e : k ≡ number S p) where
+    fresh-up : freshHeard m k (along a false)
+        ≡ cond (faultyCell (getD cells k 0)) (faultyHears m (placeOf S k) (along a false)) (freshUp cells k (on p a) (span S a) (stride S a))
+    fresh-up = heard-is k (along a false) (freshUp cells k (on p a) (span S a) (stride S a))
+        (rw (e, place-of S p i) (read-up m (λ q. 0) (firstOf cells) cell-read p i a))
 
-    down-at : readBy m (λ q. 0) p (along a true) (next S p (along a true)) ≡ freshDown cells (number S p) (on p a) (stride S a)
-    down-at =
-        ap (readBy m (λ q. 0) p (along a true)) (next-along S p i a true)
-        ∙ read-cond p (along a true) (ltb 0 (on p a)) (put a p (on p a - 1)) (number S p - stride S a) (λ t. down-is S p i a (ltb→lt 0 (on p a) t))
-
-    module _ (k : ℕ) (e : k ≡ number S p) where
-      fresh-up : freshHeard m k (along a false)
-          ≡ cond (faultyCell (getD cells k 0)) (faultyHears m (placeOf S k) (along a false)) (freshUp cells k (on p a) (span S a) (stride S a))
-      fresh-up = heard-is k (along a false) (freshUp cells k (on p a) (span S a) (stride S a)) (rw (e, place-of S p i) up-at)
-
-      fresh-down : freshHeard m k (along a true)
-          ≡ cond (faultyCell (getD cells k 0)) (faultyHears m (placeOf S k) (along a true)) (freshDown cells k (on p a) (stride S a))
-      fresh-down = heard-is k (along a true) (freshDown cells k (on p a) (stride S a)) (rw (e, place-of S p i) down-at)
+    fresh-down : freshHeard m k (along a true)
+        ≡ cond (faultyCell (getD cells k 0)) (faultyHears m (placeOf S k) (along a true)) (freshDown cells k (on p a) (stride S a))
+    fresh-down = heard-is k (along a true) (freshDown cells k (on p a) (stride S a))
+        (rw (e, place-of S p i) (read-down m (λ q. 0) (firstOf cells) cell-read p i a))
 
 -- ---- a node's seven bytes
 

@@ -1,25 +1,28 @@
 -- How the code makes a fresh state: node by node, each from the cells of its neighbours. `fresh-all` of proofs/ shows that it makes what 01
 -- says. Assumes nothing.
-use mathlib.Core.Bool.{Bool, cond, _||_}
+use mathlib.Core.Bool.{Bool, _||_}
 use mathlib.Core.List.{List, [], _∷_}
 use mathlib.Core.Path.{_≡_}
-use Prim.Native.Nat.{ℕ, _+_, _-_, _*_, _<_}
-use lib.Dec.{T, eqb, ltb}
+use Prim.Native.Nat.{ℕ, _+_, _*_, _<_}
+use lib.Dec.{T, eqb}
 use lib.ListN.{length, getD}
 use Rattle.mesh.specs.Tools.{bit}
-use Rattle.mesh.specs.Steps.{reversed}
 use Rattle.mesh.specs.Cells.{Map, faultyCell, stateLength}
-use Rattle.rules.specs.Marks.{rule}
 use Rattle.mesh.specs.declared.Sizes.{Sizes}
 use Rattle.talk.specs.State.{own, heard}
 use Rattle.talk.specs.Sound.{freshHeard, freshOwn}
+use Rattle.states.specs.Six.{ruleBy, sideUp, sideDown}
 
--- what a node hears on an axis from neighbours that say 0
+-- what is heard of node i if it says 0
+abbrev pub firstOf : List ℕ → ℕ → ℕ
+firstOf cells i = bit (faultyCell (getD cells i 0))
+
+-- what a node hears so on an axis
 abbrev pub freshUp : List ℕ → ℕ → ℕ → ℕ → ℕ → ℕ
-freshUp cells k c n step = cond (ltb (c + 1) n) (bit (faultyCell (getD cells (k + step) 0))) 8
+freshUp cells = sideUp (firstOf cells)
 
 abbrev pub freshDown : List ℕ → ℕ → ℕ → ℕ → ℕ
-freshDown cells k c step = cond (ltb 0 c) (bit (faultyCell (getD cells (k - step) 0))) 8
+freshDown cells = sideDown (firstOf cells)
 
 -- the bytes that are heard at first: 8, 1 or 0, and only 1 blocks
 unfoldable pub isFirst : ℕ → Bool
@@ -30,7 +33,7 @@ First h = (j : ℕ) → T (isFirst (h j))
 
 -- the own byte that the mark rule gives where only 1 blocks
 unfoldable pub firstRule : Sizes → ℕ → (ℕ → ℕ) → ℕ
-firstRule S o h = 2 * bit (rule S o λ j. eqb (h j) 1) + 4 * bit (rule S (reversed o) λ j. eqb (h j) 1)
+firstRule = ruleBy λ _ b. eqb b 1
 
 -- a byte for each direction
 abbrev pub sides : ℕ → ℕ → ℕ → ℕ → ℕ → ℕ → ℕ → ℕ

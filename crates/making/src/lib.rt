@@ -16,7 +16,7 @@ ghost use Rattle.mesh.specs.Mesh.{InRange, Inside, nodes, number};
 ghost use Rattle.mesh.specs.Cells.{mapOf, faultyCell, stateLength};
 ghost use Rattle.rules.specs.Marks.{rule};
 ghost use Rattle.talk.specs.Sound.{fresh};
-ghost use Rattle.states.specs.Scan.{Held, Near, six};
+ghost use Rattle.states.specs.Six.{Held, Near, six};
 ghost use Rattle.making.specs.Making.{freshUp, freshDown, First, firstRule, sides, Stored, Put, Fresh};
 
 // What a node hears from the neighbour with the next coordinate on an axis, if that says 0.
@@ -44,7 +44,7 @@ fn fresh_down(cells: &[u8], k: usize, c: usize, n: usize, step: usize) -> u8
 }
 
 // 1 if each neighbour ahead is faulty, else 0: of the bytes that are heard at first, only 1 blocks.
-fn shut(s: Sizes, o: usize, heard: u64) -> u8
+fn stuck_at_first(s: Sizes, o: usize, heard: u64) -> u8
     requires { ⌜ InRange s ⌝ }
     ensures { λ r. ⌜ ((h : ℕ → ℕ) → First h → heard ≡ six h → r ≡ bit (rule s o λ j. eqb (h j) 1)) × (r ≤ 1) ⌝ }
 {
@@ -57,7 +57,7 @@ fn first_own(s: Sizes, o: usize, heard: u64) -> u8
     requires { ⌜ InRange s × (o ≤ 7) ⌝ }
     ensures { λ r. ⌜ ((h : ℕ → ℕ) → First h → heard ≡ six h → r ≡ firstRule s o h) ⌝ }
 {
-    2 * shut(s, o, heard) + 4 * shut(s, 7 - o, heard)
+    2 * stuck_at_first(s, o, heard) + 4 * stuck_at_first(s, 7 - o, heard)
 }
 
 // Stores what node k hears on an axis.

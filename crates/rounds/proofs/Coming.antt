@@ -12,7 +12,7 @@ use Rattle.mesh.proofs.Answers.{sizes-is}
 use Rattle.talk.specs.State.{heard, mapIn, pair}
 use Rattle.talk.specs.Entries.{hearOut}
 use Rattle.talk.specs.Rounds.{hearing}
-use Rattle.states.specs.Scan.{Ready}
+use Rattle.states.specs.Six.{Ready}
 use Rattle.talk.proofs.Same.{on-state}
 use Rattle.talk.proofs.Calls.{no-news}
 use Rattle.talk.proofs.Promise.{promise}

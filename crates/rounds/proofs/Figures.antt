@@ -25,7 +25,7 @@ use Rattle.talk.proofs.Calls.{counts}
 use Rattle.counts.specs.Counts.{faultyCount, markedCount, faultyAmong}
 use Rattle.counts.proofs.Counted.{faulty-counted}
 use Rattle.rounds.specs.Links.{Fit}
-use Rattle.rounds.specs.Figures.{marksIn, marksHeld}
+use Rattle.rounds.specs.Figures.{howManyMarks, marksHeld}
 use Rattle.rounds.proofs.Coming.{ranged}
 
 -- what passes a test and what does not are all
@@ -62,7 +62,7 @@ bit-of zero h = refl
 bit-of (suc zero) h = refl
 bit-of (suc (suc n)) h = absurd (omega arith)
 
-pub marks-counted : (b : ℕ) → b / 2 % 2 + b / 4 % 2 ≡ marksIn b
+pub marks-counted : (b : ℕ) → b / 2 % 2 + b / 4 % 2 ≡ howManyMarks b
 unfolding has
 marks-counted b = omega (arith, bit-of (b / 2 % 2) (omega arith), bit-of (b / 4 % 2) (omega arith))
 
@@ -81,5 +81,5 @@ marks-ruled m o s e =
     let held : Kind → ℕ → ℕ = λ a k. bit (holds m o (placeOf (m .sizes) k) a) in
     let one : (a : Kind) (k : ℕ) → k < N → bit (has (own s k) a) ≡ held a k = λ a k h.
     ap (λ (b : ℕ). bit (has b a)) (e k h) ∙ ap bit (mark-has m o (placeOf (m .sizes) k) a (place-in (m .sizes) k h)) in
-    sum-same N (λ k. marksIn (own s k)) (λ k. held useless k + held cantReach k) (λ k h. ap₂ _+_ (one useless k h) (one cantReach k h))
+    sum-same N (λ k. howManyMarks (own s k)) (λ k. held useless k + held cantReach k) (λ k h. ap₂ _+_ (one useless k h) (one cantReach k h))
     ∙ both N (held useless) (held cantReach)

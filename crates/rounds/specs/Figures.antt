@@ -13,11 +13,11 @@ use Rattle.talk.specs.Hear.{outstandingOn}
 use Rattle.rounds.specs.Rounds.{lossyRounds, afterRounds}
 
 -- how many marks the nodes hold: a node that holds both counts twice
-abbrev pub marksIn : ℕ → ℕ
-marksIn b = bit (has b useless) + bit (has b cantReach)
+abbrev pub howManyMarks : ℕ → ℕ
+howManyMarks b = bit (has b useless) + bit (has b cantReach)
 
 unfoldable pub marksHeld : Sizes → List ℕ → ℕ
-marksHeld S s = sum (nodes S) λ k. marksIn (own s k)
+marksHeld S s = sum (nodes S) λ k. howManyMarks (own s k)
 
 -- how much news is outstanding after r rounds
 abbrev pub outstandingAfter : Map → ℕ → ℕ → ℕ

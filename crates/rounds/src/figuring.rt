@@ -10,9 +10,9 @@ ghost use Rattle.mesh.specs.Cells.{mapOf};
 ghost use Rattle.mesh.specs.declared.Answer.the-variants.{Done};
 ghost use Rattle.talk.specs.Hear.{outstanding};
 ghost use Rattle.talk.specs.Promise.{workers};
-ghost use Rattle.states.specs.Scan.{Ready};
+ghost use Rattle.states.specs.Six.{Ready};
 ghost use Rattle.rounds.specs.Links.{Fit};
-ghost use Rattle.rounds.specs.Figures.{marksIn, marksHeld};
+ghost use Rattle.rounds.specs.Figures.{howManyMarks, marksHeld};
 
 // How many nodes work.
 pub fn working(s: Sizes, cells: &[u8]) -> usize
@@ -35,8 +35,8 @@ pub fn news(s: Sizes, o: usize, state: &[u8]) -> usize
 }
 
 // How many marks a byte holds.
-fn marks_in(b: u8) -> usize
-    ensures { λ r. ⌜ (r ≡ marksIn b) × (r ≤ 2) ⌝ }
+fn how_many_marks(b: u8) -> usize
+    ensures { λ r. ⌜ (r ≡ howManyMarks b) × (r ≤ 2) ⌝ }
 {
     let n = b / 2 % 2 + b / 4 % 2;
     n as usize
@@ -49,7 +49,7 @@ pub fn marks_held(s: Sizes, state: &[u8]) -> usize
 {
     let mut held = 0;
     for k in 0..s.nodes() {
-        held += marks_in(state[7 * k]);
+        held += how_many_marks(state[7 * k]);
     }
     held
 }

@@ -12,7 +12,7 @@ ghost use lib.Dec.{eqb};
 ghost use lib.ListN.{length, getD, set};
 ghost use Rattle.mesh.specs.Mesh.{nodes};
 ghost use Rattle.talk.specs.State.{mapIn, heard, pair};
-ghost use Rattle.states.specs.Scan.{Ready};
+ghost use Rattle.states.specs.Six.{Ready};
 ghost use Rattle.rounds.specs.Links.{links, net, saying, comes, visit, Fit, Going};
 
 // Does the word differ from what was heard over the link, and may it cross?

@@ -17,7 +17,8 @@ use Rattle.mesh.proofs.Tables.{sum-same, sum-zero}
 use Rattle.talk.specs.State.{own, heard, mapIn, faultyNode, worksNode, pair, says}
 use Rattle.talk.specs.Sound.{Sound}
 use Rattle.talk.specs.Hear.{news, outstandingOn, outstanding}
-use Rattle.states.specs.Scan.{shows, nodeNews}
+use Rattle.states.specs.Six.{shows}
+use Rattle.scans.specs.Scan.{nodeNews}
 use Rattle.talk.proofs.State.{faulty-in, pair-talks, speaker-is}
 use Rattle.talk.proofs.Exact.{reads}
 

@@ -1,18 +1,18 @@
 -- A state is sound exactly where every node passes its test. The tests take for granted that own bytes are 1 or words; a node whose own byte
 -- is neither passes no test. Assumes nothing.
-use mathlib.Core.Path.{_≡_, refl, sym, ap, ap₂, _∙_, subst}
+use mathlib.Core.Path.{_≡_, refl, sym, ap, _∙_, subst}
 use mathlib.Core.Logic.{inl, inr}
 use mathlib.Core.Bool.{Bool, true, false, cond, _&&_, _||_}
 use mathlib.Core.List.{List}
-use Prim.Native.Nat.{ℕ, _+_, _*_, _<_}
+use Prim.Native.Nat.{ℕ, _*_, _<_}
 use native.Mathlib.Omega.{arith}
 use lib.Bits.{bitAnd, bitOr, or-add-and, and-le-r, or-zero-r}
 use lib.Dec.{T, eqb}
 use borrow.Author.Tests.{eq-eqb}
 use lib.ListN.{length}
-use Rattle.mesh.specs.Tools.{bit, implies, all}
+use Rattle.mesh.specs.Tools.{implies, all}
 use Rattle.mesh.specs.Mesh.{nodes, number, placeOf, Inside}
-use Rattle.mesh.specs.Steps.{next, ahead, runsDown, reversed}
+use Rattle.mesh.specs.Steps.{next, reversed}
 use Rattle.mesh.specs.Cells.{Map, stateLength}
 use Rattle.rules.specs.Marks.{useless, cantReach, has, byteOf, isWord, rule, byteBlocks, ruleByte, readBy}
 use Rattle.mesh.specs.declared.Sizes.{Sizes}
@@ -21,15 +21,16 @@ use Rattle.mesh.specs.declared.Next.{Next}
 use Rattle.mesh.specs.declared.Next.the-variants.{At, Edge}
 use Rattle.mesh.proofs.Tests.{T-and, T-or, T-implies, T-eq, T-all, T-cond, all-same, tried, bool-ext}
 use Rattle.mesh.proofs.Numbers.{number-lt, place-in}
-use Rattle.mesh.proofs.Steps.{dir-lt, next-in}
+use Rattle.mesh.proofs.Steps.{next-in}
 use Rattle.mesh.proofs.Strides.{all-rows}
-use Rattle.rules.proofs.Rule.{rule-same}
 use Rattle.rules.proofs.Bytes.{both, byte-word, word-cases, word-not-one}
 use Rattle.rules.proofs.ByteRule.{ruled-word}
 use Rattle.talk.specs.State.{own, heard, mapIn}
 use Rattle.talk.specs.Sound.{within, faultyHears, heardRight, workingRight, faultyRight, nodeRight, soundOn, sound}
-use Rattle.states.specs.Scan.{isOwn, isHeard, fits, hinders, quickRule, shows, nodeTest, rowTest}
+use Rattle.states.specs.Six.{isOwn, isHeard, fits, hinders, quickRule, shows}
+use Rattle.scans.specs.Scan.{nodeTest, rowTest}
 use Rattle.talk.proofs.State.{faulty-in, wall-in}
+use Rattle.states.proofs.Quick.{rule-by}
 use Rattle.states.proofs.Shown.{read-at}
 
 -- ---- bytes
@@ -91,11 +92,8 @@ hinders-reach = heard-cases (λ b. hinders 4 b ≡ byteBlocks b cantReach) refl 
 
 -- the quick rule is the rule on such bytes, and gives a word on any
 pub quick-is : (S : Sizes) (o : ℕ) (h : ℕ → ℕ) → ((j : ℕ) → j < 6 → T (isHeard (h j))) → quickRule S o h ≡ ruleByte S o h
-unfolding quickRule ruleByte byteOf
-quick-is S o h f = ap₂ (λ (u c : Bool). 2 * bit u + 4 * bit c)
-    (rule-same S o o (λ j. hinders 2 (h j)) (λ j. byteBlocks (h j) useless) λ a _. hinders-useless _ (f (ahead o a) (dir-lt a (runsDown o a))))
-    (rule-same S (reversed o) (reversed o) (λ j. hinders 4 (h j)) (λ j. byteBlocks (h j) cantReach)
-    λ a _. hinders-reach _ (f (ahead (reversed o) a) (dir-lt a (runsDown (reversed o) a))))
+unfolding quickRule
+quick-is S o h f = rule-by hinders S o h (λ j l. hinders-useless (h j) (f j l)) λ j l. hinders-reach (h j) (f j l)
 
 quick-word : (S : Sizes) (o : ℕ) (h : ℕ → ℕ) → T (isWord (quickRule S o h))
 unfolding quickRule byteOf

@@ -17,7 +17,8 @@ use Rattle.mesh.proofs.Tests.{all-same}
 use Rattle.mesh.proofs.Tables.{sum-same, sum-mono}
 use Rattle.talk.specs.State.{own, heard, mapIn}
 use Rattle.talk.specs.Sound.{faultyHears}
-use Rattle.states.specs.Scan.{Bytes, six, ones, fits, quickRule, shows, nodeTest, nodeNews, _isBut255_}
+use Rattle.states.specs.Six.{Bytes, six, ones, fits, quickRule, shows, _isBut255_}
+use Rattle.scans.specs.Scan.{nodeTest, nodeNews}
 use Rattle.states.proofs.Quick.{or-none, xor-none}
 use Rattle.states.proofs.Packed.{packed-eq, packed-and, packed-or, packed-xor, packed-sum, six-ones}
 

@@ -18,8 +18,8 @@ ghost use Rattle.mesh.specs.Answers.{numbered, unless};
 ghost use Rattle.mesh.specs.declared.Refusal.the-variants.{Unsound};
 ghost use Rattle.talk.specs.Sound.{sound};
 ghost use Rattle.talk.specs.Hear.{outstanding};
-ghost use Rattle.states.specs.Scan.{Ready, Held, Near, Bytes, six, ones, _isBut255_};
-ghost use Rattle.states.specs.Scan.{shownUp, shownDown, shows, nodeTest, rowTest, nodeNews, rowNews};
+ghost use Rattle.states.specs.Six.{Ready, Held, Near, Bytes, six, ones, _isBut255_, shownUp, shownDown, shows};
+ghost use Rattle.scans.specs.Scan.{nodeTest, rowTest, nodeNews, rowNews};
 
 // What is seen at a node, or in a row: 0 if all is right, and the words outstanding.
 pub struct Seen {

@@ -13,7 +13,7 @@ use Rattle.rules.specs.Marks.{counted, rule}
 use Rattle.mesh.specs.declared.Sizes.{Sizes}
 use Rattle.mesh.proofs.Bits.{bit-le, bit-and}
 use Rattle.mesh.proofs.Tests.{T-eq, T-all, all-same}
-use Rattle.states.specs.Scan.{Bytes, packed, six, ones, looks, hinders}
+use Rattle.states.specs.Six.{Bytes, packed, six, ones, looks, hinders}
 use Rattle.states.proofs.Quick.{all-axes, rule-axes}
 use Rattle.states.proofs.Packed.{packed-same, packed-eq, packed-and, packed-or, packed-add, packed-mul, packed-le, six-ones}
 

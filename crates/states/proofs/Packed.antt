@@ -9,7 +9,7 @@ use lib.Dec.{eqb}
 use Rattle.mesh.specs.Tools.{all, sum}
 use Rattle.mesh.proofs.Tests.{T-eq, T-all, bool-ext}
 use Rattle.mesh.proofs.Tables.{sum-first}
-use Rattle.states.specs.Scan.{Bytes, packed, six, ones, _isBut255_}
+use Rattle.states.specs.Six.{Bytes, packed, six, ones, _isBut255_}
 
 -- ---- what is in each byte
 

@@ -1,17 +1,20 @@
--- Bytes joined by the machine's operations are tests joined; and the rule, axis by axis. Assumes nothing.
-use mathlib.Core.Path.{_≡_}
+-- Bytes joined by the machine's operations are tests joined; and the rule, axis by axis and by other tests. Assumes nothing.
+use mathlib.Core.Path.{_≡_, ap₂}
 use mathlib.Core.Bool.{Bool, _&&_}
-use Prim.Native.Nat.{ℕ}
+use Prim.Native.Nat.{ℕ, _+_, _*_, _<_}
 use native.Mathlib.Omega.{arith}
 use lib.Bits.{bitOr, bitXor, or-add-and, xor-add-and, and-le-l, and-le-r, xor-self}
 use lib.Dec.{T, eqb}
 use borrow.Author.Tests.{le-leb}
-use Rattle.mesh.specs.Tools.{implies, all}
+use Rattle.mesh.specs.Tools.{bit, implies, all}
 use Rattle.mesh.specs.Mesh.{X, Y, Z, InRange}
-use Rattle.mesh.specs.Steps.{ahead}
-use Rattle.rules.specs.Marks.{counted, rule}
+use Rattle.mesh.specs.Steps.{ahead, runsDown, reversed}
+use Rattle.rules.specs.Marks.{useless, cantReach, byteOf, counted, rule, byteBlocks, ruleByte}
 use Rattle.mesh.specs.declared.Sizes.{Sizes}
 use Rattle.mesh.proofs.Tests.{T-and, T-eq, T-all, bool-ext}
+use Rattle.mesh.proofs.Steps.{dir-lt}
+use Rattle.rules.proofs.Rule.{rule-same}
+use Rattle.states.specs.Six.{ruleBy}
 
 -- ---- bytes that are 0 where a test holds
 
@@ -57,3 +60,12 @@ pub rule-axes : (S : Sizes) → InRange S → (o : ℕ) (b : ℕ → Bool) → r
     ≡ b (ahead o X) && b (ahead o Y) && implies (counted S Z) (b (ahead o Z))
 unfolding rule
 rule-axes S r o b = rw (le-leb 2 (S .w) (r .w-lo), le-leb 2 (S .h) (r .h-lo))
+
+-- by tests that agree with 01's on what was heard it is 01's rule
+pub rule-by : (test : ℕ → ℕ → Bool) (S : Sizes) (o : ℕ) (h : ℕ → ℕ) → ((j : ℕ) → j < 6 → test 2 (h j) ≡ byteBlocks (h j) useless)
+    → ((j : ℕ) → j < 6 → test 4 (h j) ≡ byteBlocks (h j) cantReach) → ruleBy test S o h ≡ ruleByte S o h
+unfolding ruleByte byteOf
+rule-by test S o h u c = ap₂ (λ (u c : Bool). 2 * bit u + 4 * bit c)
+    (rule-same S o o (λ j. test 2 (h j)) (λ j. byteBlocks (h j) useless) λ a _. u (ahead o a) (dir-lt a (runsDown o a)))
+    (rule-same S (reversed o) (reversed o) (λ j. test 4 (h j)) (λ j. byteBlocks (h j) cantReach)
+    λ a _. c (ahead (reversed o) a) (dir-lt a (runsDown (reversed o) a)))

@@ -1,4 +1,4 @@
--- What a node's neighbours show it, read off the state by how far apart their numbers are. Assumes nothing.
+-- What is read of a node's neighbours, by how far apart their numbers are, and what they show it. Assumes nothing.
 use mathlib.Core.Path.{_≡_, refl, sym, ap, _∙_}
 use mathlib.Core.Bool.{Bool, true, false, cond}
 use mathlib.Core.List.{List}
@@ -8,8 +8,8 @@ use lib.Dec.{T, eqb, ltb, eqb→eq, ltb→lt}
 use lib.ListN.{getD}
 use Rattle.mesh.specs.Mesh.{Axis, span, on, nodes, number, placeOf, Inside}
 use Rattle.mesh.specs.Steps.{next, along}
-use Rattle.mesh.specs.Cells.{wall}
-use Rattle.rules.specs.Marks.{readBy}
+use Rattle.mesh.specs.Cells.{Map, wall}
+use Rattle.rules.specs.Marks.{readBy, readAt}
 use Rattle.mesh.specs.declared.Sizes.{Sizes}
 use Rattle.mesh.specs.declared.Place.{Place}
 use Rattle.mesh.specs.declared.Next.{Next}
@@ -18,8 +18,32 @@ use Rattle.mesh.proofs.Numbers.{nodes-le, number-lt, place-of}
 use Rattle.mesh.proofs.Steps.{put, inside-on, put-in, next-along}
 use Rattle.mesh.proofs.Strides.{stride, up-lt, up-is, down-le, down-is}
 use Rattle.talk.specs.State.{own, mapIn}
-use Rattle.states.specs.Scan.{Ready, Held, Near, shownUp, shownDown, shows}
+use Rattle.states.specs.Six.{Ready, Held, sideUp, sideDown, shownUp, shownDown, Near, shows}
 use Rattle.talk.proofs.State.{wall-in}
+
+-- what is read of the neighbours on an axis, whoever answers for them: f i of node i
+module _ (m : Map) (bytes : Place → ℕ) (f : ℕ → ℕ) where
+  abbrev S : Sizes
+  S = m .sizes
+
+  module _ (is : (p : Place) (j : ℕ) (q : Place) → Inside S q → readBy m bytes p j (At q) ≡ f (number S q)) where
+    read-cond : (p : Place) (j : ℕ) (t : Bool) (q : Place) (n : ℕ) → (T t → Inside S q) → (T t → number S q ≡ n)
+        → readBy m bytes p j (cond t (At q) Edge) ≡ cond t (f n) 8
+    read-cond p j true q n i e = is p j q (i tt) ∙ ap f (e tt)
+    read-cond p j false q n i e = refl
+
+    module _ (p : Place) (i : Inside S p) (a : Axis) where
+      pub read-up : readAt m bytes p (along a false) ≡ sideUp f (number S p) (on p a) (span S a) (stride S a)
+      read-up =
+          ap (readBy m bytes p (along a false)) (next-along S p i a false)
+          ∙ read-cond p (along a false) (ltb (on p a + 1) (span S a)) (put a p (on p a + 1)) (number S p + stride S a)
+          (λ t. put-in S p i a (on p a + 1) (ltb→lt (on p a + 1) (span S a) t)) (λ t. up-is S p i a)
+
+      pub read-down : readAt m bytes p (along a true) ≡ sideDown f (number S p) (on p a) (stride S a)
+      read-down =
+          ap (readBy m bytes p (along a true)) (next-along S p i a true)
+          ∙ read-cond p (along a true) (ltb 0 (on p a)) (put a p (on p a - 1)) (number S p - stride S a)
+          (λ t. put-in S p i a (on p a - 1) (omega (arith, inside-on S p i a))) (λ t. down-is S p i a (ltb→lt 0 (on p a) t))
 
 one-itself : (n : ℕ) → cond (eqb n 1) 1 n ≡ n
 one-itself n = go (eqb n 1) (eqb→eq n 1)
@@ -36,42 +60,15 @@ module _ (S : Sizes) (s : List ℕ) where
   pub read-at : (p : Place) (j : ℕ) (q : Place) → Inside S q → readBy (mapIn S s) bytes p j (At q) ≡ own s (number S q)
   read-at p j q i = rw (wall-in S s p j q i) (one-itself (bytes q))
 
-  read-cond : (p : Place) (j : ℕ) (t : Bool) (q : Place) → (T t → Inside S q) → readBy (mapIn S s) bytes p j (cond t (At q) Edge)
-      ≡ cond t (own s (number S q)) 8
-  read-cond p j true q i = read-at p j q (i tt)
-  read-cond p j false q i = refl
-
-  module _ (p : Place) (i : Inside S p) where
-    shows-at : (a : Axis) (down : Bool) → shows S s (number S p) (along a down) ≡ readBy (mapIn S s) bytes p (along a down) (next S p (along a down))
+  -- for the number that the code has found
+  module _ (p : Place) (i : Inside S p) (k : ℕ) (e : k ≡ number S p) (a : Axis) where
+    pub shows-up : shows S s k (along a false) ≡ shownUp s k (on p a) (span S a) (stride S a)
     unfolding shows
-    shows-at a down = rw (place-of S p i)
+    shows-up = rw (e, place-of S p i) (read-up (mapIn S s) bytes (own s) read-at p i a)
 
-    up-at : (a : Axis) → shows S s (number S p) (along a false) ≡ shownUp s (number S p) (on p a) (span S a) (stride S a)
-    up-at a =
-        shows-at a false
-        ∙ ap (readBy (mapIn S s) bytes p (along a false)) (next-along S p i a false)
-        ∙ read-cond p (along a false) (ltb (on p a + 1) (span S a)) (put a p (on p a + 1))
-        (λ t. put-in S p i a (on p a + 1) (ltb→lt (on p a + 1) (span S a) t))
-        ∙ ap (λ (n : ℕ). cond (ltb (on p a + 1) (span S a)) (own s n) 8) (up-is S p i a)
-
-    down-at : (a : Axis) → shows S s (number S p) (along a true) ≡ shownDown s (number S p) (on p a) (stride S a)
-    down-at a =
-        shows-at a true
-        ∙ ap (readBy (mapIn S s) bytes p (along a true)) (next-along S p i a true)
-        ∙ read-cond p (along a true) (ltb 0 (on p a)) (put a p (on p a - 1)) (λ t. put-in S p i a (on p a - 1) (omega (arith, inside-on S p i a)))
-        ∙ at (ltb 0 (on p a)) (λ t. ap (own s) (down-is S p i a (ltb→lt 0 (on p a) t)))
-      where
-        at : (t : Bool) {a b : ℕ} → (T t → a ≡ b) → cond t a 8 ≡ cond t b 8
-        at true f = f tt
-        at false f = refl
-
-    -- for the number that the code has found
-    module _ (k : ℕ) (e : k ≡ number S p) (a : Axis) where
-      pub shows-up : shows S s k (along a false) ≡ shownUp s k (on p a) (span S a) (stride S a)
-      shows-up = rw e (up-at a)
-
-      pub shows-down : shows S s k (along a true) ≡ shownDown s k (on p a) (stride S a)
-      shows-down = rw e (down-at a)
+    pub shows-down : shows S s k (along a true) ≡ shownDown s k (on p a) (stride S a)
+    unfolding shows
+    shows-down = rw (e, place-of S p i) (read-down (mapIn S s) bytes (own s) read-at p i a)
 
 -- what is shown is a byte
 pub shows-byte : (S : Sizes) (s : List ℕ) → ((i : ℕ) → getD s i 0 < 256) → (k j : ℕ) → shows S s k j < 256

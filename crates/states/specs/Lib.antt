@@ -1,1 +1,1 @@
-pub mod Scan
+pub mod Six

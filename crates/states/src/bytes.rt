@@ -1,4 +1,4 @@
-// The bytes of one node: what its neighbours show it, and the mark rule.
+// Single bytes of a state: how many there are, what a faulty node holds, whether a byte fits what is shown, and the own byte by the mark rule.
 use crate::six::heard;
 use crate::six::ruled;
 use mesh::Place;
@@ -10,7 +10,7 @@ ghost use Rattle.mesh.specs.Mesh.{InRange};
 ghost use Rattle.mesh.specs.Cells.{Map, stateLength};
 ghost use Rattle.talk.specs.State.{heard};
 ghost use Rattle.talk.specs.Sound.{faultyHears};
-ghost use Rattle.states.specs.Scan.{Held, fits, quickRule};
+ghost use Rattle.states.specs.Six.{Held, fits, quickRule};
 
 // How many bytes a state has.
 pub fn state_length(s: Sizes) -> usize

@@ -8,7 +8,7 @@ ghost use Rattle.mesh.specs.Mesh.{InRange, nodes, placeOf};
 ghost use Rattle.mesh.specs.Steps.{next, neighbour};
 ghost use Rattle.mesh.specs.Cells.{linked};
 ghost use Rattle.talk.specs.State.{own, mapIn, pair, says};
-ghost use Rattle.states.specs.Scan.{Ready, Held};
+ghost use Rattle.states.specs.Six.{Ready, Held};
 
 // Is node k faulty?
 pub fn faulty(state: &[u8], k: usize) -> bool

@@ -8,7 +8,7 @@ ghost use Rattle.mesh.specs.Tools.{bit};
 ghost use Rattle.mesh.specs.Mesh.{InRange, Z};
 ghost use Rattle.rules.specs.Marks.{counted, rule};
 ghost use Rattle.talk.specs.State.{heard};
-ghost use Rattle.states.specs.Scan.{Held, Bytes, six, ones, looks, hinders, quickRule};
+ghost use Rattle.states.specs.Six.{Held, Bytes, six, ones, looks, hinders, quickRule};
 
 // A 1 for each direction.
 pub const ONES: u64 = 0x0101_0101_0101;

@@ -1,5 +1,5 @@
--- What a sample's proof opens. `unfolding computed` under a statement about given numbers unfolds every definition, of this crate and of
--- mesh, by which the answers of Entries and the states after calls compute; `refl` then proves it. Assumes nothing.
+-- What a sample's proof opens. `unfolding computed` under a statement about given numbers unfolds every definition, of this crate, rules
+-- and mesh, by which the answers of Entries and the states after calls compute; `refl` then proves it. Assumes nothing.
 use Rattle.mesh.specs.Tools.{all, sum, table}
 use Rattle.mesh.specs.Mesh.{inRange}
 use Rattle.mesh.specs.Steps.{next}

@@ -6,7 +6,7 @@ use Rattle.making.proofs.first_own.Tie as tie
 
 returns : tie.Need-returns
 unfolding firstRule
-returns c = λ h f e. rw (c .before .shut .ensures .0 h f e, c .shut2 .ensures .0 h f e)
+returns c = λ h f e. rw (c .before .stuck-at-first .ensures .0 h f e, c .stuck-at-first2 .ensures .0 h f e)
 
 pub first-own-spec : {M : Type 1} → statement M
 first-own-spec =

@@ -7,7 +7,7 @@ use lib.ListN.{length}
 use Rattle.mesh.specs.Mesh.{Axis, X, Y, Z, span, on}
 use Rattle.mesh.proofs.Numbers.{nodes-le, layer-le, number-lt}
 use Rattle.mesh.proofs.Strides.{stride}
-use Rattle.states.specs.Scan.{Near, six}
+use Rattle.states.specs.Six.{Near, six}
 use Rattle.making.specs.Making.{firstRule, sides, Put}
 use Rattle.states.proofs.Packed.{six-is}
 use Rattle.states.proofs.Shown.{beside}

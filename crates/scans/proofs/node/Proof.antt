@@ -4,7 +4,8 @@ use Prim.Native.Nat.{ℕ, _*_}
 use native.Mathlib.Omega.{arith}
 use denote.Ref.{now}
 use Rattle.talk.specs.State.{heard}
-use Rattle.states.specs.Scan.{_isBut255_, nodeTest, nodeNews}
+use Rattle.states.specs.Six.{_isBut255_}
+use Rattle.scans.specs.Scan.{nodeTest, nodeNews}
 use Rattle.states.proofs.Beside.{six-lt}
 use Rattle.states.proofs.Shown.{held}
 use Rattle.scans.proofs.Tested.{faulty-test, working-test, differs-six, differs-byte, faulty-news, working-news}

@@ -10,7 +10,8 @@ use Rattle.mesh.specs.Tools.{all, sum}
 use Rattle.mesh.proofs.Tests.{all-more}
 use Rattle.mesh.proofs.Tables.{sum-more}
 use Rattle.mesh.proofs.Strides.{row-number, row-in}
-use Rattle.states.specs.Scan.{ones, _isBut255_, nodeTest, nodeNews}
+use Rattle.states.specs.Six.{ones, _isBut255_}
+use Rattle.scans.specs.Scan.{nodeTest, nodeNews}
 use Rattle.states.proofs.Quick.{or-none}
 use Rattle.states.proofs.Packed.{but-add, but-few}
 use Rattle.scans.proofs.Tested.{news-le, sum-six}

@@ -13,7 +13,7 @@ use Rattle.mesh.proofs.Tables.{sum-more}
 use Rattle.mesh.proofs.Numbers.{rows-le}
 use Rattle.mesh.proofs.Strides.{sum-rows}
 use Rattle.talk.specs.Sound.{sound}
-use Rattle.states.specs.Scan.{rowTest, rowNews, nodeNews}
+use Rattle.scans.specs.Scan.{rowTest, rowNews, nodeNews}
 use Rattle.talk.proofs.Decide.{sound-iff}
 use Rattle.scans.proofs.Scanned.{scan-is}
 use Rattle.scans.proofs.Counted.{news-is}

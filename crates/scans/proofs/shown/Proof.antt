@@ -7,7 +7,7 @@ use Rattle.mesh.specs.Mesh.{Axis, X, Y, Z, span, on}
 use Rattle.mesh.specs.Steps.{along}
 use Rattle.mesh.proofs.Numbers.{layer-le}
 use Rattle.mesh.proofs.Strides.{stride}
-use Rattle.states.specs.Scan.{Held, Near, shownUp, shownDown, shows}
+use Rattle.states.specs.Six.{Held, Near, shownUp, shownDown, shows}
 use Rattle.states.proofs.Packed.{six-is}
 use Rattle.states.proofs.Shown.{near, shows-up, shows-down, shows-byte}
 use borrow.Author.Needs.{needs}

@@ -8,6 +8,7 @@ use Rattle.mesh.specs.Cells.{mapOf}
 use Rattle.format.specs.Entry.{readAnswer}
 use Rattle.format.proofs.Read.{HasRead, has-read}
 use Rattle.text.proofs.Saying.{said-as}
+use Rattle.report.specs.Report.{refusalLine}
 use Rattle.gossiping.specs.Text.{mapText}
 use Rattle.gossiping.proofs.Read.{map-told, refusal-told}
 use borrow.Author.Needs.{needs}
@@ -42,17 +43,20 @@ returns c =
 returns-2 : tie.Need-returns-2
 returns-2 c =
     let called = c .before .before in
-    let taken = called .before .before in
+    let number = called .before .before in
+    let taken = number .before .before in
     let read = taken .before .before .before in
     let made = read .before .before in
     let file = now (made .before .before .before .args .file) in
-    let is = ap (readAnswer file) (made .buffer .ensures) ∙ sym (read .read-map .ensures .0) ∙ taken .enum-told .given .1 in (
-      said-as (refusal-told file (taken .enum-told .given .0 .0) is) (called .report .ensures .0),
-      omega (arith, called .report .ensures .1),
+    let is = ap (readAnswer file) (made .buffer .ensures) ∙ sym (read .read-map .ensures .0) ∙ taken .r .given .1 in
+    let e = ap refusalLine (number .number .ensures) ∙ refusal-told file (taken .r .given .0 .0) is in (
+      said-as e (called .refusal-line .ensures .0),
+      omega (arith, called .refusal-line .ensures .1),
     )
 
 pub gossip-spec : {M : Type 1} → statement M
 gossip-spec =
     tie.close (tie.spec (λ c κs. search needs) (λ c. search needs) (λ c κs. search needs) (λ c. search needs)
     (λ c κs. has c .sized) (λ c. search needs) slice-aggregate-map-text map-text-requires (λ c. search needs)
-    (λ c κs. search needs) (λ c. search needs) returns (λ c. search needs) returns-2)
+    (λ c κs. search needs) (λ c. search needs) (λ c κs. search needs) (λ c. search needs) returns (λ c. search needs)
+    returns-2)

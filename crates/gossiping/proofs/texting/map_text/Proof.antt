@@ -1,10 +1,11 @@
 -- `gossiping::texting::map_text` meets its contract: the first line, the legend, and then the orientations. Assumes nothing.
 use mathlib.Core.Path.{_≡_, sym, ap, _∙_}
-use Prim.Native.Nat.{ℕ, _*_}
+use Prim.Native.Nat.{_≤_}
 use native.Mathlib.Omega.{arith}
 use denote.Ref.{now}
 use lib.ListN.{length, take}
 use lib.Seq.{length-take-le}
+use Rattle.mesh.proofs.Numbers.{nodes-le}
 use Rattle.mesh.proofs.Answers.{map-granted}
 use Rattle.text.proofs.Saying.{said-next, said-as}
 use Rattle.report.specs.Report.{firstLine}
@@ -13,14 +14,19 @@ use borrow.Author.Needs.{needs}
 use Rattle.gossiping.proofs.texting.map_text.Statement.{statement}
 use Rattle.gossiping.proofs.texting.map_text.Tie as tie
 
--- the part that is lent is as long as it is to be
-state-long : (n : tie.After-nodes) → length (take (7 * n .nodes .result) (n .before .large-buffer .result)) ≡ 7 * n .nodes .result
-state-long n =
+-- the buffer has room for a state, and the part that is lent is as long as it is to be
+state-fits : (n : tie.After-state-length) → n .state-length .result ≤ length (n .before .large-buffer .result)
+state-fits n =
     let room = n .before in
-    length-take-le (7 * n .nodes .result) (room .large-buffer .result) (omega (arith, n .nodes .ensures .1, room .large-buffer .ensures))
+    let s = room .before .before .before in
+    let sized = map-granted (s .args .s) (now (s .args .cells)) (s .pre .0) .sized in
+    omega (arith, n .state-length .ensures, nodes-le (s .args .s) sized, room .large-buffer .ensures)
 
-nodes-requires : tie.Need-nodes-requires
-nodes-requires c κs = let s = c .before .before .before in map-granted (s .args .s) (now (s .args .cells)) (s .pre .0) .sized
+state-long : (n : tie.After-state-length) → length (take (n .state-length .result) (n .before .large-buffer .result)) ≡ n .state-length .result
+state-long n = length-take-le (n .state-length .result) (n .before .large-buffer .result) (state-fits n)
+
+state-length-requires : tie.Need-state-length-requires
+state-length-requires c κs = let s = c .before .before .before in map-granted (s .args .s) (now (s .args .cells)) (s .pre .0) .sized
 
 slice-aggregate-octant-texts : tie.Need-slice-aggregate-octant-texts
 slice-aggregate-octant-texts c = sym (state-long (c .before .before .before .before .before .before .before .before .before .before))
@@ -32,7 +38,7 @@ octant-texts-requires c κs =
     let n = first .before .before .before in
     let s = n .before .before .before .before in (
       s .pre .0,
-      state-long n ∙ ap (λ (k : ℕ). 7 * k) (n .nodes .ensures .0),
+      state-long n ∙ n .state-length .ensures,
       omega (
         arith,
         s .pre .1,
@@ -61,6 +67,6 @@ returns c =
 
 pub map-text-spec : {M : Type 1} → statement M
 map-text-spec =
-    tie.close (tie.spec (λ c κs. search needs) nodes-requires (λ c. search needs) (λ c κs. search needs)
-    (λ c κs. search needs) (λ c κs. search needs) (λ c. search needs) slice-aggregate-octant-texts octant-texts-requires
-    (λ c. search needs) returns)
+    tie.close (tie.spec (λ c κs. search needs) state-length-requires (λ c κs. search needs) (λ c κs. search needs)
+    (λ c κs. search needs) (λ c. state-fits (c .before .before .before .before .before .before .before .before .before))
+    slice-aggregate-octant-texts octant-texts-requires (λ c. search needs) returns)

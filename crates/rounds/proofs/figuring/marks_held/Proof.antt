@@ -8,13 +8,13 @@ use Rattle.mesh.specs.Tools.{sum}
 use Rattle.mesh.specs.Mesh.{nodes}
 use Rattle.mesh.proofs.Tables.{sum-more}
 use Rattle.talk.specs.State.{own}
-use Rattle.rounds.specs.Figures.{marksIn, marksHeld}
+use Rattle.rounds.specs.Figures.{howManyMarks, marksHeld}
 use Rattle.rounds.proofs.figuring.marks_held.Statement.{statement}
 use Rattle.rounds.proofs.figuring.marks_held.Tie as tie
 
 abbrev Inv-loop : tie.InvT-loop
 Inv-loop state held₀ k₀ k-end held k =
-    (k ≤ k-end) × (held ≤ 2 * k) × (held ≡ sum k λ i. marksIn (own state i))
+    (k ≤ k-end) × (held ≤ 2 * k) × (held ≡ sum k λ i. howManyMarks (own state i))
 
 abbrev μ-loop : tie.MeasureT-loop
 μ-loop state held₀ k₀ k-end held k = k-end - k
@@ -27,18 +27,18 @@ nodes-requires : tie.Need-nodes-requires Inv-loop μ-loop
 nodes-requires c κs = c .before .pre .sized
 
 loop-holds : tie.Need-loop-holds Inv-loop μ-loop
-loop-holds c = (omega arith, omega arith, none λ i. marksIn (own (now (c .before .before .args .state)) i))
+loop-holds c = (omega arith, omega arith, none λ i. howManyMarks (own (now (c .before .before .args .state)) i))
 
-mul-marks-in : tie.Need-mul-marks-in Inv-loop μ-loop
-mul-marks-in c = omega (arith, c .before .before .nodes .ensures .1)
+mul-how-many-marks : tie.Need-mul-how-many-marks Inv-loop μ-loop
+mul-how-many-marks c = omega (arith, c .before .before .nodes .ensures .1)
 
-shared-slice-read-marks-in : tie.Need-shared-slice-read-marks-in Inv-loop μ-loop
-shared-slice-read-marks-in c = let n = c .before .before .before in omega (arith, n .nodes .ensures .0, n .before .before .pre .long)
+shared-slice-read-how-many-marks : tie.Need-shared-slice-read-how-many-marks Inv-loop μ-loop
+shared-slice-read-how-many-marks c = let n = c .before .before .before in omega (arith, n .nodes .ensures .0, n .before .before .pre .long)
 
 add-held : tie.Need-add-held Inv-loop μ-loop
 add-held c =
     let l = c .before .before .before in
-    omega (arith, l .loop .inv .1, c .marks-in .ensures .1, l .before .nodes .ensures .1)
+    omega (arith, l .loop .inv .1, c .how-many-marks .ensures .1, l .before .nodes .ensures .1)
 
 add-k : tie.Need-add-k Inv-loop μ-loop
 add-k c = omega (arith, c .before .before .before .before .nodes .ensures .1)
@@ -46,10 +46,10 @@ add-k c = omega (arith, c .before .before .before .before .nodes .ensures .1)
 loop-again : tie.Need-loop-again Inv-loop μ-loop
 loop-again c =
     let l = c .before .before .before in
-    let f : ℕ → ℕ = λ i. marksIn (own (now (l .before .before .before .args .state)) i) in (
+    let f : ℕ → ℕ = λ i. howManyMarks (own (now (l .before .before .before .args .state)) i) in (
       omega arith,
-      omega (arith, l .loop .inv .1, c .marks-in .ensures .1),
-      omega (arith, l .loop .inv .2, c .marks-in .ensures .0, sum-more (l .loop .k) f),
+      omega (arith, l .loop .inv .1, c .how-many-marks .ensures .1),
+      omega (arith, l .loop .inv .2, c .how-many-marks .ensures .0, sum-more (l .loop .k) f),
     )
 
 returns : tie.Need-returns Inv-loop μ-loop
@@ -58,9 +58,9 @@ returns c =
     let l = c .before in
     let a = l .before .before .before .args in
     let e : l .loop .k ≡ nodes (a .s) = omega (arith, l .before .nodes .ensures .0) in
-    l .loop .inv .2 ∙ ap (λ (n : ℕ). sum n λ i. marksIn (own (now (a .state)) i)) e
+    l .loop .inv .2 ∙ ap (λ (n : ℕ). sum n λ i. howManyMarks (own (now (a .state)) i)) e
 
 pub marks-held-spec : {M : Type 1} → statement M
 marks-held-spec =
-    tie.close (tie.spec Inv-loop μ-loop nodes-requires loop-holds mul-marks-in shared-slice-read-marks-in
+    tie.close (tie.spec Inv-loop μ-loop nodes-requires loop-holds mul-how-many-marks shared-slice-read-how-many-marks
     (λ c κs. search needs) add-held add-k (λ c. omega arith) loop-again returns)

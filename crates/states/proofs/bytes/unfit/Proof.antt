@@ -1,6 +1,6 @@
 -- `states::bytes::unfit` meets its contract: two bytes are equal where nothing is left of their difference. Assumes nothing.
 use lib.Bits.{bitAnd, bitOr}
-use Rattle.states.specs.Scan.{fits}
+use Rattle.states.specs.Six.{fits}
 use Rattle.states.proofs.Quick.{xor-none}
 use Rattle.states.proofs.bytes.unfit.Statement.{statement}
 use Rattle.states.proofs.bytes.unfit.Tie as tie

@@ -1,5 +1,5 @@
 -- `states::six::ruled` meets its contract: the rule of each mark, the second in the reversed orientation. Assumes nothing.
-use Rattle.states.specs.Scan.{quickRule}
+use Rattle.states.specs.Six.{quickRule}
 use borrow.Author.Needs.{needs}
 use Rattle.states.proofs.six.ruled.Statement.{statement}
 use Rattle.states.proofs.six.ruled.Tie as tie

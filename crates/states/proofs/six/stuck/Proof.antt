@@ -8,7 +8,7 @@ use lib.Dec.{eqb}
 use borrow.Author.Tests.{eq-eqb, ne-eqb}
 use Rattle.mesh.specs.Tools.{bit}
 use Rattle.rules.specs.Marks.{rule}
-use Rattle.states.specs.Scan.{Bytes, six, ones, hinders}
+use Rattle.states.specs.Six.{Bytes, six, ones, hinders}
 use Rattle.states.proofs.Beside.{stuck-is}
 use borrow.Author.Needs.{needs}
 use Rattle.states.proofs.six.stuck.Statement.{statement}

@@ -1,5 +1,4 @@
--- How the code goes through a state: row by row, six bytes at once, without branches on what a byte holds. `scan-is` and `news-is` of the
--- crate scans show that it finds what 01 says. Assumes nothing.
+-- How the code reads a state: six bytes at once, without branches on what a byte holds. Assumes nothing.
 use mathlib.Core.Bool.{Bool, false, cond, not, _&&_, _||_}
 use mathlib.Core.List.{List, [], _∷_}
 use mathlib.Core.Path.{_≡_}
@@ -7,16 +6,15 @@ use Prim.Native.Nat.{ℕ, zero, suc, _+_, _-_, _*_, _<_, _≤_}
 use lib.Bits.{bitAnd, bitOr}
 use lib.Dec.{eqb, ltb}
 use lib.ListN.{length, getD}
-use Rattle.mesh.specs.Tools.{bit, all, sum, count}
+use Rattle.mesh.specs.Tools.{bit}
 use Rattle.mesh.specs.Mesh.{X, Y, Z, InRange, number, placeOf}
 use Rattle.mesh.specs.Steps.{runsDown, reversed}
 use Rattle.mesh.specs.Cells.{stateLength}
 use Rattle.rules.specs.Marks.{counted, rule, isWord, readAt}
 use Rattle.mesh.specs.declared.Sizes.{Sizes}
-use Rattle.talk.specs.State.{own, heard, mapIn}
-use Rattle.talk.specs.Sound.{faultyHears}
+use Rattle.talk.specs.State.{own, mapIn}
 
--- what the checks before the scan have granted
+-- what the checks have granted before a state is read
 pub record Ready (S : Sizes) (s : List ℕ) : Type 0 where
   pub sized : InRange S
   pub long : length s ≡ stateLength S
@@ -74,16 +72,28 @@ looks S o j = getD
 
 -- ---- one node
 
--- the mark rule by that test
-unfoldable pub quickRule : Sizes → ℕ → (ℕ → ℕ) → ℕ
-quickRule S o h = 2 * bit (rule S o λ j. hinders 2 (h j)) + 4 * bit (rule S (reversed o) λ j. hinders 4 (h j))
+-- the mark rule, where `test part` says which bytes block for the mark that is worth `part`
+abbrev pub ruleBy : (ℕ → ℕ → Bool) → Sizes → ℕ → (ℕ → ℕ) → ℕ
+ruleBy test S o h = 2 * bit (rule S o λ j. test 2 (h j)) + 4 * bit (rule S (reversed o) λ j. test 4 (h j))
 
--- what node k's neighbours on an axis show it: c is k's coordinate there, n the axis's size, `step` how far apart the numbers are
+-- by the test above
+unfoldable pub quickRule : Sizes → ℕ → (ℕ → ℕ) → ℕ
+quickRule = ruleBy hinders
+
+-- what node k reads of its neighbours on an axis, if it reads f i of node i: c is k's coordinate there, n the axis's size, `step` how far apart
+-- the numbers are
+abbrev pub sideUp : (ℕ → ℕ) → ℕ → ℕ → ℕ → ℕ → ℕ
+sideUp f k c n step = cond (ltb (c + 1) n) (f (k + step)) 8
+
+abbrev pub sideDown : (ℕ → ℕ) → ℕ → ℕ → ℕ → ℕ
+sideDown f k c step = cond (ltb 0 c) (f (k - step)) 8
+
+-- what they show it
 abbrev pub shownUp : List ℕ → ℕ → ℕ → ℕ → ℕ → ℕ
-shownUp s k c n step = cond (ltb (c + 1) n) (own s (k + step)) 8
+shownUp s = sideUp (own s)
 
 abbrev pub shownDown : List ℕ → ℕ → ℕ → ℕ → ℕ
-shownDown s k c step = cond (ltb 0 c) (own s (k - step)) 8
+shownDown s = sideDown (own s)
 
 -- what is had of node k is had of those neighbours too
 pub record Near (Has : ℕ → Type 0) (k c n step : ℕ) : Type 0 where
@@ -94,25 +104,3 @@ pub record Near (Has : ℕ → Type 0) (k c n step : ℕ) : Type 0 where
 -- what node k's neighbour in direction j shows it
 unfoldable pub shows : Sizes → List ℕ → ℕ → ℕ → ℕ
 shows S s k j = readAt (mapIn S s) (λ q. own s (number S q)) (placeOf S k) j
-
--- the seven bytes of node k pass the test
-unfoldable pub nodeTest : Sizes → ℕ → List ℕ → ℕ → Bool
-nodeTest S o s k =
-    cond
-    (eqb (own s k) 1)
-    (all 6 λ j. eqb (heard s k j) (faultyHears (mapIn S s) (placeOf S k) j))
-    (eqb (own s k) (quickRule S o (heard s k)) && all 6 λ j. fits (shows S s k j) (heard s k j))
-
--- the nodes of row r pass it
-abbrev pub rowTest : Sizes → ℕ → List ℕ → ℕ → Bool
-rowTest S o s r = all (S .w) λ x. nodeTest S o s (x + S .w * r)
-
--- ---- words outstanding, in a sound state
-
--- how many of node k's neighbours show it another byte than it has heard
-unfoldable pub nodeNews : Sizes → List ℕ → ℕ → ℕ
-nodeNews S s k = cond (eqb (own s k) 1) 0 (count 6 λ j. not (eqb (shows S s k j) (heard s k j)))
-
--- in row r
-abbrev pub rowNews : Sizes → List ℕ → ℕ → ℕ
-rowNews S s r = sum (S .w) λ x. nodeNews S s (x + S .w * r)
