@@ -11,7 +11,7 @@ use Rattle.format.specs.declared.MapRead.{MapRead}
 use Rattle.format.specs.declared.MapRead.the-variants.{Read, NotRead}
 use Rattle.text.specs.Text.{ascii, told}
 use Rattle.counts.specs.Counts.{faultyCount}
-use Rattle.report.specs.Report.{firstLine, orientations, refusalLine, largest}
+use Rattle.report.specs.Report.{firstLine, orientations, refusalLine, mostNodes}
 use Rattle.talk.specs.Promise.{workers, enoughRounds}
 use Rattle.rounds.specs.Rounds.{lossyRounds}
 use Rattle.rounds.specs.Figures.{outstandingAfter, marksAfter, settledAt}
@@ -54,4 +54,4 @@ textOn (Read S) cells = mapText (mapOf S cells)
 textOn (NotRead r) cells = refusalLine (refusalNo r)
 
 unfoldable pub gossip : List ℕ → List ℕ
-gossip file = textOn (readAnswer file largest) (cellsIn file)
+gossip file = textOn (readAnswer file mostNodes) (cellsIn file)

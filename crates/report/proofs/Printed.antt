@@ -9,9 +9,9 @@ use Rattle.mesh.specs.declared.Refusal.{Refusal}
 use Rattle.mesh.proofs.Numbers.{nodes-le}
 use Rattle.format.specs.Format.{sizesIn}
 use Rattle.format.specs.Promise.{ReadRefused}
-use Rattle.report.specs.Report.{largest}
+use Rattle.report.specs.Report.{mostNodes}
 
-pub printed : (file : List ℕ) (r : Refusal) → ReadRefused file largest r → (refusalNo r ≡ 11) ⊎ ((refusalNo r ≡ 1) ⊎ (refusalNo r ≡ 4))
+pub printed : (file : List ℕ) (r : Refusal) → ReadRefused file mostNodes r → (refusalNo r ≡ 11) ⊎ ((refusalNo r ≡ 1) ⊎ (refusalNo r ≡ 4))
 printed file r (ReadRefused.by-frame n) = inl refl
 printed file r (ReadRefused.by-sizes f n) = inr (inl refl)
 printed file r (ReadRefused.by-distance f s n) = inl refl

@@ -54,8 +54,8 @@ reportOn (Read S) cells = mapReport (mapOf S cells)
 reportOn (NotRead r) cells = refusalLine (refusalNo r)
 
 -- the report on a file, whose cells are read into room for the largest mesh
-abbrev pub largest : ℕ
-largest = 4096
+abbrev pub mostNodes : ℕ
+mostNodes = 4096
 
 unfoldable pub report : List ℕ → List ℕ
-report file = reportOn (readAnswer file largest) (cellsIn file)
+report file = reportOn (readAnswer file mostNodes) (cellsIn file)
