@@ -22,6 +22,28 @@ def p():
     return Map(5, 5, 1, [1 if node in (7, 11) else 0 for node in range(25)])
 
 
+class Indexed:
+    """A number type with nothing but its index."""
+
+    def __init__(self, number):
+        self.number = number
+
+    def __index__(self):
+        return self.number
+
+
+class Wrapping(int):
+    """A number type of 4 bits, which wraps."""
+
+    def __mul__(self, other):
+        return Wrapping(int(self) * int(other) % 16)
+
+    def __add__(self, other):
+        return Wrapping((int(self) + int(other)) % 16)
+
+    __rmul__, __radd__ = __mul__, __add__
+
+
 class Samples(unittest.TestCase):
     def test_marks_and_components(self):
         marks = p().marks(0)
@@ -110,6 +132,18 @@ class Refusals(unittest.TestCase):
             self.assertRaises(dukthari.Unsound, Field, 2, 2, 1, 0, [far] * 28)
         self.assertRaises(TypeError, p().route, "0", 24)
         self.assertRaises(TypeError, Map, 2, 2, 1, 4)
+
+    def test_numbers_of_other_types(self):
+        """A number type is taken by its __index__ alone, whatever else it does."""
+        field = Field.fresh(p(), 0)
+        for kind in (Indexed, Wrapping):
+            for node in range(25):
+                self.assertEqual(field.own(kind(node)), field.own(node))
+                for direction in range(6):
+                    self.assertEqual(field.heard(kind(node), kind(direction)), field.heard(node, direction))
+            self.assertRaises(dukthari.BadNumber, field.own, kind(25))
+            self.assertRaises(dukthari.BadNumber, field.heard, kind(0), kind(6))
+            self.assertEqual(p().route(kind(0), kind(24)), p().route(0, 24))
 
     def test_places(self):
         shelf = Map(4, 3, 2)

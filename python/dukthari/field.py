@@ -49,12 +49,14 @@ class Field:
 
     def own(self, node):
         """What a node knows of itself, as a mark byte."""
+        node = operator.index(node)
         call("dk_place", (*self.sizes, node))
         return self._state[7 * node]
 
     def heard(self, node, direction):
         """The byte that a node has heard from a direction: a word, 8 where no neighbour exists, 1 where it is faulty. A faulty node has
         heard 0."""
+        node, direction = operator.index(node), operator.index(direction)
         call("dk_step", (*self.sizes, *self._place(node), direction))
         return self._state[7 * node + 1 + direction]
 
