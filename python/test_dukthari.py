@@ -82,6 +82,11 @@ class Samples(unittest.TestCase):
         self.assertEqual(len(file), 37)
         self.assertEqual(Map.from_file(file), p())
         self.assertEqual(Map.from_file(b"notes" + file), p())
+        self.assertEqual(Map.from_file(bytearray(file)), p())
+        self.assertEqual(Map.from_file(memoryview(b"notes" + file)[2:]), p())
+        for no_file in (37, "a map", None, [0] * 37):
+            with self.assertRaisesRegex(TypeError, f"bytes-like object is required, not '{type(no_file).__name__}'"):
+                Map.from_file(no_file)
 
     @unittest.skipUnless(hasattr(dukthari.LIBRARY, "dk_reached"), "the library has no dk_reached")
     def test_reached(self):

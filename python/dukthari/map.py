@@ -37,7 +37,7 @@ class Map:
         Map(2, 2, 1, b'\\x00\\x00\\x00\\x01')
         """
         cells = (c_uint8 * 4096)()
-        answer = call("dk_read_map", (), bytes(file), cells)
+        answer = call("dk_read_map", (), memoryview(file).tobytes(), cells)
         sizes = answer.w, answer.h, answer.d
         return cls(*sizes, cells[: nodes(sizes)])
 
