@@ -1,5 +1,6 @@
 """The module's examples, the scope paper's samples, each refusal, and what the module repeats of the header and of the Rust wrapper."""
 
+import ctypes
 import doctest
 import os
 import random
@@ -14,6 +15,18 @@ import dukthari
 from dukthari import Component, Field, Map, Verdict, calls
 
 TOP = os.path.join(os.path.dirname(os.path.abspath(__file__)), "..")
+
+# the types of include/dukthari.h
+C_TYPES = {
+    "uint8_t": ctypes.c_uint8,
+    "uint16_t": ctypes.c_uint16,
+    "uint32_t": ctypes.c_uint32,
+    "size_t": ctypes.c_size_t,
+    "const uint8_t *": ctypes.c_char_p,
+    "uint8_t *": ctypes.POINTER(ctypes.c_uint8),
+    "uint16_t *": ctypes.POINTER(ctypes.c_uint16),
+    "dk_component *": ctypes.POINTER(calls.Record),
+}
 
 
 def text(*path):
@@ -92,7 +105,6 @@ class Samples(unittest.TestCase):
             with self.assertRaisesRegex(TypeError, f"bytes-like object is required, not '{type(no_file).__name__}'"):
                 Map.from_file(no_file)
 
-    @unittest.skipUnless(hasattr(dukthari.LIBRARY, "dk_reached"), "the library has no dk_reached")
     def test_reached(self):
         self.assertEqual([node for node, byte in enumerate(p().reached(2, 17)) if byte], [2])
         self.assertEqual(p().reached(0, 24)[24], 1)
@@ -192,21 +204,35 @@ class Agreement(unittest.TestCase):
                 self.assertEqual(str(Map.from_file(file.read())) + "\n", text("maps", name + ".txt"))
 
     def test_header(self):
-        """The header declares the calls of this module, with as many arguments, and gives each refusal its number."""
-        declared = dict(re.findall(r"^dk_\w+ +(dk_\w+)\(([^;]*)\);", text("include", "dukthari.h"), re.MULTILINE))
-        for name, arguments in declared.items():
-            _, numbers, *buffers = calls.CALLS[name]
-            self.assertEqual(len(arguments.split(",")), numbers + 2 * len(buffers), name)
-            self.assertTrue(hasattr(dukthari.LIBRARY, name), name)
-        self.assertGreaterEqual(len(declared), 13)
-        numbers = {int(number) for number in re.findall(r"^#define DK_\w+ (\d+)u\b", text("include", "dukthari.h"), re.MULTILINE)}
-        self.assertEqual(numbers, set(dukthari.REFUSALS))
+        """The header declares the calls of this module and no others, with the same answers and arguments, and the same refusals."""
+        header = text("include", "dukthari.h")
+        declared = re.findall(r"^(\w+) +(dk_\w+)\(([^;]*)\);", header, re.MULTILINE)
+        self.assertEqual({name for _, name, _ in declared}, set(calls.CALLS))
+        structs = {"dk_component": calls.Record, **{answer.__name__: answer for answer, *_ in calls.CALLS.values()}}
+        for answer, name, arguments in declared:
+            function = getattr(dukthari.LIBRARY, name)
+            self.assertIs(function.restype, structs[answer], name)
+            types = [re.match(r"(.*?)\w+$", argument.strip())[1].strip() for argument in arguments.split(",")]
+            self.assertEqual([C_TYPES[kind] for kind in types], function.argtypes, name)
+        laid = re.findall(r"^typedef struct \{ (.*) \} (dk_\w+);", header, re.MULTILINE)
+        self.assertEqual({name for _, name in laid}, set(structs))
+        for rows, name in laid:
+            groups = re.findall(r"(\w+) ([^;]+);", rows)
+            fields = [(field.strip(), C_TYPES[kind]) for kind, row in groups for field in row.split(",")]
+            self.assertEqual(fields, structs[name]._fields_, name)
+        numbers = re.findall(r"^#define DK_(\w+) (\d+)u\b", header, re.MULTILINE)
+        names = {int(number): name.title().replace("_", "") for name, number in numbers}
+        self.assertEqual(names, {number: kind.__name__ for number, kind in dukthari.REFUSALS.items()})
 
     def test_reasons(self):
-        """Rust and Python say the same of each refusal."""
+        """Rust and Python give each refusal the same name, number and words."""
         said = text("rust", "dukthari", "src", "refusal.rs")
-        for kind in dukthari.REFUSALS.values():
-            self.assertIn(f'"{kind.reason}"', said)
+        numbers = dict(re.findall(r"^ +Refusal::(\w+)[^\n]* => (\d+),", said, re.MULTILINE))
+        reasons = dict(re.findall(r"^ +Refusal::(\w+)[^\n]* => \{?\s*\"(.*)\",?$", said, re.MULTILINE))
+        self.assertEqual({kind.__name__: str(number) for number, kind in dukthari.REFUSALS.items()}, numbers)
+        self.assertEqual({kind.__name__: kind.reason for kind in dukthari.REFUSALS.values()}, reasons)
+        self.assertIn('", the first at node {node}"', said)
+        self.assertEqual(str(dukthari.BadCell(3)), f"refused 4: {reasons['BadCell']}, the first at node 3")
 
 
 class Example(unittest.TestCase):

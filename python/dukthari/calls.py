@@ -10,20 +10,23 @@ from .refusals import REFUSALS, BadCell
 
 
 def _answer(name, *fields):
+    """A struct of 32-bit fields, by its name in include/dukthari.h."""
     return type(name, (Structure,), {"_fields_": [(field, c_uint32) for field in fields]})
 
 
-_Done = _answer("_Done", "refusal", "bad")
-_Counted = _answer("_Counted", "refusal", "bad", "count")
-_VerdictAnswer = _answer("_VerdictAnswer", "refusal", "bad", "hops", "offered")
-_MapAnswer = _answer("_MapAnswer", "refusal", "bad", "w", "h", "d")
-_NodeAnswer = _answer("_NodeAnswer", "refusal", "node")
-_PlaceAnswer = _answer("_PlaceAnswer", "refusal", "x", "y", "z")
-_StepAnswer = _answer("_StepAnswer", "refusal", "there", "x", "y", "z")
+_Done = _answer("dk_done", "refusal", "bad")
+_Counted = _answer("dk_counted", "refusal", "bad", "count")
+_VerdictAnswer = _answer("dk_verdict_answer", "refusal", "bad", "hops", "offered")
+_MapAnswer = _answer("dk_map_answer", "refusal", "bad", "w", "h", "d")
+_NodeAnswer = _answer("dk_node_answer", "refusal", "node")
+_PlaceAnswer = _answer("dk_place_answer", "refusal", "x", "y", "z")
+_StepAnswer = _answer("dk_step_answer", "refusal", "there", "x", "y", "z")
 
 
 class Record(Structure):
-    _fields_ = [("count", c_uint16), ("least", c_uint8 * 3), ("greatest", c_uint8 * 3)]
+    """The record of a component: dk_component."""
+
+    _fields_ = [("count", c_uint16), *((field, c_uint8) for field in ("x0", "y0", "z0", "x1", "y1", "z1"))]
 
 
 _READ = (c_char_p, c_size_t)

@@ -118,7 +118,9 @@ class Map:
         table = (c_uint16 * len(self._cells))()
         row = (Record * len(self._cells))()
         count = call("dk_components", (*self.sizes, orientation), self._cells, table, row).count
-        return list(table), [Component(record.count, tuple(record.least), tuple(record.greatest)) for record in row[:count]]
+        return list(table), [
+            Component(record.count, (record.x0, record.y0, record.z0), (record.x1, record.y1, record.z1)) for record in row[:count]
+        ]
 
     def verdict(self, start, end):
         """May a transfer go from start to end by a path of the least length through working nodes?"""
