@@ -3,6 +3,7 @@
 was refused. Status: 0 granted, 1 refused, 2 what was asked could not be read or the answer not written. The module is in python/:
 PYTHONPATH must name that folder."""
 
+import contextlib
 import os
 import sys
 
@@ -28,16 +29,21 @@ def transfer(name, start, end):
     return " ".join([f"{len(route) - 1} hops:", *map(str, route)]), 0
 
 
+def failed(why):
+    """Says why on standard error, if that can be written."""
+    with contextlib.suppress(OSError):
+        os.write(2, f"{why}\n".encode())
+    return 2
+
+
 def main(words):
     if len(words) != 3:
-        print("usage: transfer.py MAP START END", file=sys.stderr)
-        return 2
+        return failed("usage: transfer.py MAP START END")
     try:
         line, status = transfer(*words)
         os.write(1, f"{line}\n".encode())
     except OSError as error:
-        print(f"transfer: {error}", file=sys.stderr)
-        return 2
+        return failed(f"transfer: {error}")
     return status
 
 

@@ -238,20 +238,19 @@ class Agreement(unittest.TestCase):
 class Example(unittest.TestCase):
     """examples/transfer.py: what it prints is in tests/transfers; here is what words and files can be besides."""
 
-    def transfer(self, *words, stdout=subprocess.PIPE):
+    def transfer(self, *words, stdout=subprocess.PIPE, stderr=subprocess.PIPE):
         """What it prints, and its status. It has half a gigabyte of memory."""
         ran = subprocess.run(
             [sys.executable, "-B", os.path.join(TOP, "examples", "transfer.py"), *words],
             env={**os.environ, "PYTHONPATH": os.path.join(TOP, "python")},
             stdout=stdout,
-            stderr=subprocess.PIPE,
+            stderr=stderr,
             text=True,
             preexec_fn=lambda: resource.setrlimit(resource.RLIMIT_AS, (2**29, 2**29)),
             timeout=60,
         )
-        self.assertNotIn("Traceback", ran.stderr)
-        self.assertNotIn("Exception", ran.stderr)
-        self.assertEqual(ran.stderr != "", ran.returncode == 2)
+        if stderr == subprocess.PIPE:
+            self.assertRegex(ran.stderr, {2: r"\A(usage|transfer): .*\n\Z"}.get(ran.returncode, r"\A\Z"))
         return re.sub(r"^(refused \d+).*", r"\1", ran.stdout or ""), ran.returncode
 
     def test_words(self):
@@ -277,6 +276,7 @@ class Example(unittest.TestCase):
         with open("/dev/full", "wb") as full:
             for end in ("24", "12"):
                 self.assertEqual(self.transfer(os.path.join(TOP, "maps", "p.map"), "0", end, stdout=full), ("", 2))
+            self.assertEqual(self.transfer(os.path.join(TOP, "maps", "none"), "0", "1", stderr=full), ("", 2))
 
 
 def load_tests(loader, tests, pattern):
