@@ -10,6 +10,7 @@ import subprocess
 import sys
 import tempfile
 import unittest
+import unittest.mock
 
 import dukthari
 from dukthari import Component, Field, Map, Verdict, calls
@@ -179,6 +180,19 @@ class Refusals(unittest.TestCase):
         self.assertEqual(shelf, Map(4, 3, 2))
 
 
+def asked_one_by_one(shelf, field):
+    """The words outstanding: of each node and direction, what the neighbour there holds, if both work and it is not what was heard."""
+    words = []
+    for listener in range(len(shelf.cells)):
+        for direction in range(6):
+            place = shelf.step(*shelf.place(listener), direction)
+            speaker = None if place is None else shelf.number(*place)
+            if speaker is not None and not {listener, speaker} & set(shelf.faulty()):
+                if field.own(speaker) != field.heard(listener, direction):
+                    words.append((listener, direction, field.own(speaker)))
+    return words
+
+
 class Agreement(unittest.TestCase):
     def test_random_maps(self):
         numbers = random.Random(20261115)
@@ -190,11 +204,19 @@ class Agreement(unittest.TestCase):
             field = Field.fresh(shelf, orientation)
             while field.outstanding():
                 news = field.news()
+                self.assertEqual(news, asked_one_by_one(shelf, field))
                 self.assertEqual(len(news), field.outstanding())
                 for word in news:
                     field.hear(*word)
             self.assertEqual(field.marks(), shelf.marks(orientation))
             self.assertEqual(Field(*shelf.sizes, orientation, field.state).state, field.state)
+
+    def test_news_is_quick(self):
+        """The mesh is walked once: after that no call is needed."""
+        field = Field.fresh(Map(16, 16, 16), 0)
+        self.assertEqual(field.news(), [])
+        with unittest.mock.patch("dukthari.field.call", side_effect=AssertionError("the mesh is walked again")):
+            self.assertEqual(field.news(), [])
 
     def test_drawings(self):
         names = [name[:-4] for name in os.listdir(os.path.join(TOP, "maps")) if name.endswith(".map")]

@@ -1,13 +1,27 @@
 """The nodes that tell each other their marks."""
 
+import functools
 import operator
 from collections import namedtuple
 from ctypes import c_uint8
 
-from .calls import as_bytes, call
+from .calls import as_bytes, call, nodes
 
 Word = namedtuple("Word", "listener direction word")
 Word.__doc__ = "A word that a listener has yet to hear from its neighbour in a direction: 0, 2, 4 or 6."
+
+
+@functools.lru_cache(maxsize=16)
+def _links(sizes):
+    """Each node, each direction in which it has a neighbour, and that neighbour, as the library's steps go."""
+    links = []
+    for node in range(nodes(sizes)):
+        place = call("dk_place", (*sizes, node))
+        for direction in range(6):
+            step = call("dk_step", (*sizes, place.x, place.y, place.z, direction))
+            if step.there:
+                links.append((node, direction, call("dk_number", (*sizes, step.x, step.y, step.z)).node))
+    return tuple(links)
 
 
 class Field:
@@ -57,7 +71,8 @@ class Field:
         """The byte that a node has heard from a direction: a word, 8 where no neighbour exists, 1 where it is faulty. A faulty node has
         heard 0."""
         node, direction = operator.index(node), operator.index(direction)
-        call("dk_step", (*self.sizes, *self._place(node), direction))
+        place = call("dk_place", (*self.sizes, node))
+        call("dk_step", (*self.sizes, place.x, place.y, place.z, direction))
         return self._state[7 * node + 1 + direction]
 
     def marks(self):
@@ -70,19 +85,13 @@ class Field:
 
     def news(self):
         """The words that are outstanding, as the speakers hold them now. Of a faulty neighbour a node has heard 1, its own byte: no news."""
-        pairs = [(node, direction) for node in range(len(self._state) // 7) for direction in range(6) if self.own(node) != 1]
-        words = [Word(node, direction, self._speaker(node, direction)) for node, direction in pairs]
-        return [word for word in words if word.word not in (None, self.heard(word.listener, word.direction))]
+        own, state = self.marks(), self.state
+        return [
+            Word(node, direction, own[speaker])
+            for node, direction, speaker in _links(self.sizes)
+            if own[node] != 1 and own[speaker] != state[7 * node + 1 + direction]
+        ]
 
     def hear(self, listener, direction, word):
         """A node hears a word, 0, 2, 4 or 6, from its neighbour in a direction. A late word takes nothing away."""
         call("dk_hear", (*self.sizes, self.orientation, listener, direction, word), self._state)
-
-    def _place(self, node):
-        answer = call("dk_place", (*self.sizes, node))
-        return answer.x, answer.y, answer.z
-
-    def _speaker(self, node, direction):
-        """The own byte of a node's neighbour in a direction, None if there is none."""
-        step = call("dk_step", (*self.sizes, *self._place(node), direction))
-        return self.own(call("dk_number", (*self.sizes, step.x, step.y, step.z)).node) if step.there else None
