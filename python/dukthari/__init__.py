@@ -23,6 +23,7 @@ shared library is target/shared/libdukthari.so, which `make` makes, or the file 
 """
 
 from .calls import LIBRARY
+from .drawing import BadDrawing
 from .field import Field, Word
 from .map import Component, Map, Verdict
 from .refusals import (
@@ -45,6 +46,7 @@ __all__ = [
     "LIBRARY",
     "REFUSALS",
     "BadCell",
+    "BadDrawing",
     "BadFile",
     "BadLength",
     "BadNumber",

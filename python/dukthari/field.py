@@ -2,13 +2,18 @@
 
 import functools
 import operator
-from collections import namedtuple
 from ctypes import c_uint8
+from typing import NamedTuple
 
 from .calls import as_bytes, call, nodes
 
-Word = namedtuple("Word", "listener direction word")
-Word.__doc__ = "A word that a listener has yet to hear from its neighbour in a direction: 0, 2, 4 or 6."
+
+class Word(NamedTuple):
+    """A word that a listener has yet to hear from its neighbour in a direction: 0, 2, 4 or 6."""
+
+    listener: int
+    direction: int
+    word: int
 
 
 @functools.lru_cache(maxsize=16)
@@ -36,7 +41,7 @@ class Field:
     >>> field.hear(4, 0, 2)  # node 4 hears from +X that its neighbour is useless
     >>> field.own(4), field.outstanding()
     (2, 5)
-    >>> while field.outstanding():
+    >>> while not field.is_settled():
     ...     for word in field.news():
     ...         field.hear(*word)
     >>> field.marks() == shelf.marks(0)
@@ -44,9 +49,10 @@ class Field:
     """
 
     def __init__(self, w, h, d, orientation, state):
-        self.sizes = tuple(operator.index(size) for size in (w, h, d))
-        self.orientation = operator.index(orientation)
-        self._state = (c_uint8 * len(state))(*as_bytes(state))
+        self._sizes = operator.index(w), operator.index(h), operator.index(d)
+        self._orientation = operator.index(orientation)
+        row = as_bytes(state)
+        self._state = (c_uint8 * len(row))(*row)
         call("dk_sound", (*self.sizes, self.orientation), self.state)
 
     @classmethod
@@ -57,9 +63,25 @@ class Field:
         return cls(*shelf.sizes, orientation, state)
 
     @property
+    def sizes(self):
+        """Width, height and depth."""
+        return self._sizes
+
+    @property
+    def orientation(self):
+        """The orientation, 0 to 7."""
+        return self._orientation
+
+    @property
     def state(self):
         """The bytes of the state, as Field takes them."""
         return bytes(self._state)
+
+    def __eq__(self, other):
+        return isinstance(other, Field) and (self.sizes, self.orientation, self.state) == (other.sizes, other.orientation, other.state)
+
+    def __repr__(self):
+        return "Field({}, {}, {}, {}, {!r})".format(*self.sizes, self.orientation, self.state)
 
     def own(self, node):
         """What a node knows of itself, as a mark byte."""
@@ -82,6 +104,10 @@ class Field:
     def outstanding(self):
         """How many words are outstanding: pairs of working neighbours in which the listener has not heard what the speaker now holds."""
         return call("dk_outstanding", (*self.sizes, self.orientation), self.state).count
+
+    def is_settled(self):
+        """Whether nothing is outstanding."""
+        return self.outstanding() == 0
 
     def news(self):
         """The words that are outstanding, as the speakers hold them now. Of a faulty neighbour a node has heard 1, its own byte: no news."""

@@ -1,16 +1,35 @@
 """A map that owns its sizes and cells."""
 
 import operator
-from collections import namedtuple
 from ctypes import c_uint8, c_uint16
+from typing import NamedTuple, Tuple
 
+from . import drawing
 from .calls import Record, as_bytes, call, nodes
 
-Verdict = namedtuple("Verdict", "hops offered")
-Verdict.__doc__ = "The hops from start to end, and the directions in which a path begins: bit k for direction k."
 
-Component = namedtuple("Component", "count least greatest")
-Component.__doc__ = "A component: its number of nodes, and the least and the greatest x, y and z among them."
+class Verdict(NamedTuple):
+    """The hops from start to end, and the directions in which a path begins: bit k for direction k."""
+
+    hops: int
+    offered: int
+
+    @property
+    def directions(self):
+        """The directions in which a path begins, in rising order.
+
+        >>> Verdict(hops=8, offered=5).directions
+        (0, 2)
+        """
+        return tuple(direction for direction in range(6) if self.offered >> direction & 1)
+
+
+class Component(NamedTuple):
+    """A component: its number of nodes, and the least and the greatest x, y and z among them."""
+
+    count: int
+    least: Tuple[int, int, int]
+    greatest: Tuple[int, int, int]
 
 
 class Map:
@@ -25,7 +44,7 @@ class Map:
     """
 
     def __init__(self, w, h, d, cells=None):
-        self.sizes = tuple(operator.index(size) for size in (w, h, d))
+        self._sizes = operator.index(w), operator.index(h), operator.index(d)
         self._cells = bytes(nodes(self.sizes)) if cells is None else as_bytes(cells)
         self.to_file()
 
@@ -41,10 +60,30 @@ class Map:
         sizes = answer.w, answer.h, answer.d
         return cls(*sizes, cells[: nodes(sizes)])
 
+    @classmethod
+    def from_drawing(cls, text):
+        """The map of a drawing: `.` works, `#` is faulty, a row to a line, a blank line between layers. BadDrawing says where a text is
+        none, and why.
+
+        >>> Map.from_drawing("..#\\n...\\n#..").route(0, 8)
+        [0, 1, 4, 5, 8]
+        >>> Map.from_drawing("...\\n.x.\\n...")
+        Traceback (most recent call last):
+            ...
+        dukthari.drawing.BadDrawing: line 2, column 2: 'x' is neither '.' (works) nor '#' (faulty)
+        """
+        sizes, cells = drawing.read(text)
+        return cls(*sizes, cells)
+
     def to_file(self):
         """The bytes of the map's file, without notes."""
         file = (c_uint8 * (4096 + 12))()
         return bytes(file[: call("dk_write_map", self.sizes, self._cells, file).count])
+
+    @property
+    def sizes(self):
+        """Width, height and depth."""
+        return self._sizes
 
     @property
     def cells(self):
@@ -58,7 +97,7 @@ class Map:
         return "Map({}, {}, {}, {!r})".format(*self.sizes, self._cells)
 
     def __str__(self):
-        """The map as a drawing, as ./draw text prints it."""
+        """The map as a drawing, as from_drawing reads it and ./draw text prints it."""
         w, h, _ = self.sizes
         rows = ["".join(".#"[cell] for cell in self._cells[i : i + w]) for i in range(0, len(self._cells), w)]
         return "\n\n".join("\n".join(rows[i : i + h]) for i in range(0, len(rows), h))
