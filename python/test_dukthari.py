@@ -2,6 +2,7 @@
 
 import ctypes
 import doctest
+import inspect
 import os
 import random
 import re
@@ -9,6 +10,7 @@ import resource
 import subprocess
 import sys
 import tempfile
+import typing
 import unittest
 import unittest.mock
 
@@ -257,6 +259,30 @@ class Agreement(unittest.TestCase):
         self.assertEqual({kind.__name__: kind.reason for kind in dukthari.REFUSALS.values()}, reasons)
         self.assertIn('", the first at node {node}"', said)
         self.assertEqual(str(dukthari.BadCell(3)), f"refused 4: {reasons['BadCell']}, the first at node 3")
+
+
+class Hints(unittest.TestCase):
+    def test_everything_public(self):
+        """Each public function says what it takes and gives, and each public name what it is."""
+        self.assertTrue(os.path.exists(os.path.join(os.path.dirname(dukthari.__file__), "py.typed")))
+        kinds = [getattr(dukthari, name) for name in dukthari.__all__ if name not in ("LIBRARY", "REFUSALS")]
+        seen = 0
+        for kind in kinds:
+            self.assertTrue(vars(kind).get("__doc__"), kind)
+            for name, value in vars(kind).items():
+                value = getattr(value, "__func__", None) or getattr(value, "fget", None) or value
+                if not inspect.isfunction(value) or not value.__module__.startswith("dukthari."):
+                    continue
+                if name.startswith("_") and name not in ("__init__", "__eq__", "__repr__", "__str__"):
+                    continue
+                seen += 1
+                hints = typing.get_type_hints(value)
+                taken = [taken for taken in inspect.signature(value).parameters if taken not in ("self", "cls")]
+                self.assertEqual(sorted(hints), sorted([*taken, "return"]), value)
+                self.assertTrue(value.__doc__ or name.startswith("__"), value)
+        self.assertGreaterEqual(seen, 40)
+        for kind in (Verdict, Component, dukthari.Word):
+            self.assertEqual(list(typing.get_type_hints(kind)), list(kind._fields))
 
 
 def dots(w, h, d):

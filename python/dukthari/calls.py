@@ -1,15 +1,22 @@
 """The C calls: the shared library, and each call with the exception for its refusal."""
 
+from __future__ import annotations
+
 import ctypes
 import ctypes.util
 import operator
 import os
+from collections.abc import Iterable
 from ctypes import POINTER, Structure, c_char_p, c_size_t, c_uint8, c_uint16, c_uint32
+from typing import Any, SupportsIndex
 
 from .refusals import REFUSALS, BadCell
 
+# sizes, or a place
+Triple = tuple[int, int, int]
 
-def _answer(name, *fields):
+
+def _answer(name: str, *fields: str) -> Any:
     """A struct of 32-bit fields, by its name in include/dukthari.h."""
     return type(name, (Structure,), {"_fields_": [(field, c_uint32) for field in fields]})
 
@@ -53,7 +60,7 @@ CALLS = {
 }
 
 
-def _load():
+def _load() -> ctypes.CDLL:
     """The shared library: the one that the environment names, that of this tree, or the system's."""
     named = os.environ.get("DUKTHARI_LIBRARY")
     made = os.path.join(os.path.dirname(os.path.abspath(__file__)), "..", "..", "target", "shared", "libdukthari.so")
@@ -71,18 +78,18 @@ def _load():
 LIBRARY = _load()
 
 
-def as_number(number):
+def as_number(number: SupportsIndex) -> int:
     """A number as the calls take it. One that has no 32 bits becomes the largest, which is outside every range, so that it is refused."""
     number = operator.index(number)
     return number if 0 <= number < 2**32 else 2**32 - 1
 
 
-def as_bytes(row):
+def as_bytes(row: Iterable[SupportsIndex]) -> bytes:
     """Cells or a state as the calls take them. A number that has no 8 bits becomes 255, which is neither, so that it is refused."""
     return bytes(number if 0 <= number < 256 else 255 for number in map(operator.index, row))
 
 
-def call(name, numbers, *buffers):
+def call(name: str, numbers: Iterable[SupportsIndex], *buffers: Any) -> Any:
     """Calls the library: the answer, or the exception for its refusal. Each buffer goes with its length."""
     lent = [part for buffer in buffers for part in (buffer, len(buffer))]
     answer = getattr(LIBRARY, name)(*map(as_number, numbers), *lent)
@@ -92,7 +99,7 @@ def call(name, numbers, *buffers):
     raise kind(answer.bad) if kind is BadCell else kind()
 
 
-def nodes(sizes):
+def nodes(sizes: Triple) -> int:
     """How many nodes the mesh has; BadSizes if it is none."""
     call("dk_place", (*sizes, 0))
     w, h, d = sizes

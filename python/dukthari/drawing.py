@@ -1,7 +1,11 @@
 """Maps as text that people write: `.` works, `#` is faulty, a row to a line, a blank line between layers. The first character of a row has x
 = 0, the first row of a layer y = 0, the first layer z = 0."""
 
+from __future__ import annotations
+
 import unicodedata
+
+from .calls import Triple
 
 # characters that Rust writes in short
 _SHORT = {"\0": "\\0", "\t": "\\t", "\n": "\\n", "\r": "\\r", "'": "\\'", "\\": "\\\\"}
@@ -10,17 +14,17 @@ _SHORT = {"\0": "\\0", "\t": "\\t", "\n": "\\n", "\r": "\\r", "'": "\\'", "\\": 
 class BadDrawing(ValueError):
     """Where a text is not a drawing, its line and column counted from 1, and why, in words: the flaw."""
 
-    def __init__(self, line, column, flaw):
+    def __init__(self, line: int, column: int, flaw: str) -> None:
         super().__init__(line, column, flaw)
         self.line = line
         self.column = column
         self.flaw = flaw
 
-    def __str__(self):
+    def __str__(self) -> str:
         return f"line {self.line}, column {self.column}: {self.flaw}"
 
 
-def read(text):
+def read(text: str) -> tuple[Triple, bytes]:
     """The sizes and the cells of a drawing. Blank lines before the first layer and after the last, and more than one between two, are as
     good."""
     if not isinstance(text, str):
@@ -33,10 +37,10 @@ def read(text):
     return (width, height, len(layers)), cells
 
 
-def _layers(text):
+def _layers(text: str) -> list[list[tuple[int, str]]]:
     """The stretches of lines that are not blank: of each row the number of its line, and the row."""
     *lines, last = text.split("\n")
-    layers = [[]]
+    layers: list[list[tuple[int, str]]] = [[]]
     for line, row in enumerate([*(row.removesuffix("\r") for row in lines), last], 1):
         if row:
             layers[-1].append((line, row))
@@ -45,7 +49,7 @@ def _layers(text):
     return [rows for rows in layers if rows]
 
 
-def _layer_cells(rows, width, first):
+def _layer_cells(rows: list[tuple[int, str]], width: int, first: int) -> bytes:
     """A layer's cells, if it has as many rows as the first."""
     cells = b"".join(_row_cells(line, row, width) for line, row in rows[: min(first, 16)])
     has = len(rows)
@@ -56,7 +60,7 @@ def _layer_cells(rows, width, first):
     return cells
 
 
-def _row_cells(line, row, first):
+def _row_cells(line: int, row: str, first: int) -> bytes:
     """A row's cells, if it has as many as the first. What is missing is looked for where it should stand."""
     has = len(row)
     for column, found in enumerate(row, 1):
@@ -73,7 +77,7 @@ def _row_cells(line, row, first):
     return bytes(".#".index(found) for found in row)
 
 
-def _quoted(found):
+def _quoted(found: str) -> str:
     """A character in quotes, as Rust shows it, a few rare marks apart: what does not print, or prints upon another, by its number."""
     if found in _SHORT:
         return f"'{_SHORT[found]}'"
