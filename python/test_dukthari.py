@@ -1,12 +1,14 @@
 """The module's examples, the scope paper's samples, each refusal, and what the module repeats of the header and of the Rust wrapper."""
 
 import ctypes
+import ctypes.util
 import doctest
 import inspect
 import os
 import random
 import re
 import resource
+import shutil
 import subprocess
 import sys
 import tempfile
@@ -259,6 +261,29 @@ class Agreement(unittest.TestCase):
         self.assertEqual({kind.__name__: kind.reason for kind in dukthari.REFUSALS.values()}, reasons)
         self.assertIn('", the first at node {node}"', said)
         self.assertEqual(str(dukthari.BadCell(3)), f"refused 4: {reasons['BadCell']}, the first at node 3")
+
+
+class Library(unittest.TestCase):
+    """Where the shared library is looked for."""
+
+    def found(self, folder, **named):
+        """The library that the package in this folder loads, or the last line of what it says."""
+        kept = {name: value for name, value in os.environ.items() if name != "DUKTHARI_LIBRARY"}
+        asked = [sys.executable, "-B", "-c", "import dukthari; dukthari.Map(2, 2, 1); print(dukthari.LIBRARY._name)"]
+        ran = subprocess.run(asked, cwd=folder, env={**kept, "PYTHONPATH": folder, **named}, capture_output=True, text=True, timeout=60)
+        return (ran.stdout or ran.stderr).splitlines()[-1]
+
+    def test_a_copied_package(self):
+        with tempfile.TemporaryDirectory() as top:
+            top = os.path.realpath(top)
+            folder = os.path.join(top, "python")
+            shutil.copytree(os.path.dirname(dukthari.__file__), os.path.join(folder, "dukthari"))
+            if ctypes.util.find_library("dukthari") is None:
+                self.assertRegex(self.found(folder), "ImportError: no libdukthari.so: .* beside the package, or DUKTHARI_LIBRARY names it")
+            for place in ("target/shared", "python", "elsewhere"):
+                os.makedirs(os.path.join(top, place), exist_ok=True)
+                path = shutil.copy(dukthari.LIBRARY._name, os.path.join(top, place, "libdukthari.so"))
+                self.assertEqual(self.found(folder, **({"DUKTHARI_LIBRARY": path} if place == "elsewhere" else {})), path)
 
 
 class Hints(unittest.TestCase):

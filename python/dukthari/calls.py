@@ -61,12 +61,14 @@ CALLS = {
 
 
 def _load() -> ctypes.CDLL:
-    """The shared library: the one that the environment names, that of this tree, or the system's."""
+    """The shared library: the one that the environment names, the one beside this package, that of this tree, or the system's."""
     named = os.environ.get("DUKTHARI_LIBRARY")
-    made = os.path.join(os.path.dirname(os.path.abspath(__file__)), "..", "..", "target", "shared", "libdukthari.so")
-    found = named or (made if os.path.exists(made) else ctypes.util.find_library("dukthari"))
+    beside = os.path.dirname(os.path.dirname(os.path.abspath(__file__)))
+    made = os.path.join(os.path.dirname(beside), "target", "shared")
+    there = [path for folder in (beside, made) if os.path.exists(path := os.path.join(folder, "libdukthari.so"))]
+    found = named or (there[0] if there else ctypes.util.find_library("dukthari"))
     if not found:
-        raise ImportError("no libdukthari.so: `make` makes it, or DUKTHARI_LIBRARY names it")
+        raise ImportError("no libdukthari.so: `make` makes it; it may stand beside the package, or DUKTHARI_LIBRARY names it")
     library = ctypes.CDLL(found)
     for name, (answer, numbers, *buffers) in CALLS.items():
         function = getattr(library, name)
