@@ -434,14 +434,14 @@ class Example(unittest.TestCase):
     """examples/transfer.py: what it prints is in tests/transfers; here is what words and files can be besides."""
 
     def transfer(self, *words, stdout=subprocess.PIPE, stderr=subprocess.PIPE):
-        """What it prints, and its status. It has half a gigabyte of memory."""
+        """What it prints, and its status. It has a gigabyte of memory."""
         ran = subprocess.run(
             [sys.executable, "-B", os.path.join(TOP, "examples", "transfer.py"), *words],
             env={**os.environ, "PYTHONPATH": os.path.join(TOP, "python")},
             stdout=stdout,
             stderr=stderr,
             text=True,
-            preexec_fn=lambda: resource.setrlimit(resource.RLIMIT_AS, (2**29, 2**29)),
+            preexec_fn=lambda: resource.setrlimit(resource.RLIMIT_AS, (2**30, 2**30)),
             timeout=60,
         )
         if stderr == subprocess.PIPE:

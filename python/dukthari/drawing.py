@@ -1,5 +1,5 @@
-"""Maps as text that people write: `.` works, `#` is faulty, a row to a line, a blank line between layers. The first character of a row has x
-= 0, the first row of a layer y = 0, the first layer z = 0."""
+"""Maps as text that people write: `.` works, `#` is faulty, a row to a line, a blank line between layers. The first character of a row has
+x = 0, the first row of a layer y = 0, the first layer z = 0."""
 
 from __future__ import annotations
 
