@@ -19,10 +19,12 @@ A node (x, y, z) has the number x + w * (y + h * z). Directions are 0 for +X, 1 
 X runs down if bit 0 is set, Y if bit 1, Z if bit 2.
 
 Every answer is the proved library's. A call that it refuses raises one of the exceptions below Refused, and has changed nothing. The
-shared library is target/shared/libdukthari.so, which `make` makes, or the file that the environment names in DUKTHARI_LIBRARY.
+shared library is the file that the environment names in DUKTHARI_LIBRARY, else libdukthari.so beside this package, else
+target/shared/libdukthari.so in its tree, which `make` makes, else the system's.
 """
 
 from .calls import LIBRARY
+from .drawing import BadDrawing
 from .field import Field, Word
 from .map import Component, Map, Verdict
 from .refusals import (
@@ -45,6 +47,7 @@ __all__ = [
     "LIBRARY",
     "REFUSALS",
     "BadCell",
+    "BadDrawing",
     "BadFile",
     "BadLength",
     "BadNumber",
