@@ -49,9 +49,6 @@ stepFields (Led (At p)) = record { refusal = 0; there = 1; x = p .x; y = p .y; z
 stepFields (Led Edge) = record { refusal = 0; there = 0; x = 0; y = 0; z = 0 }
 stepFields (NotStepped r) = record { refusal = refusalNo r; there = 0; x = 0; y = 0; z = 0 }
 
-abbrev pub SteppedFits : Stepped → Type 0
-SteppedFits a = (p : Place) → a ≡ Led (At p) → PlaceFits p
-
 -- a call without a value: its number, and the first bad cell
 abbrev pub doneFields : Answer → DoneAnswer
 doneFields a = record { refusal = answerNo a; bad = answerBad a }

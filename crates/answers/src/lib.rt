@@ -1,13 +1,11 @@
 // What goes in and out at the boundary: sizes and places made from numbers, and the fields of each answer. include/dukthari.h declares the answers.
 use format::MapRead;
 use mesh::Answer;
-use mesh::Next;
 use mesh::Numbered;
 use mesh::Place;
 use mesh::Placed;
 use mesh::Refusal;
 use mesh::Sizes;
-use mesh::Stepped;
 use paths::Verdict;
 ghost use mathlib.Core.Path.{_≡_};
 ghost use Prim.Native.Nat.{_≤_};
@@ -15,7 +13,7 @@ ghost use Rattle.mesh.specs.Mesh.{sizes, place};
 ghost use Rattle.mesh.specs.Answers.{refusalBad, answerBad};
 ghost use Rattle.mesh.specs.declared.Answer.the-variants.{Refused};
 ghost use Rattle.mesh.specs.declared.Placed.the-variants.{Found};
-ghost use Rattle.answers.specs.Fields.{nodeFields, PlaceFits, PlacedFits, placeFields, SteppedFits, stepFields, doneFields, NumberedFits, countedFields, VerdictFits, verdictFields, MapFits, mapFields};
+ghost use Rattle.answers.specs.Fields.{nodeFields, PlaceFits, PlacedFits, placeFields, doneFields, NumberedFits, countedFields, VerdictFits, verdictFields, MapFits, mapFields};
 
 #[repr(C)]
 pub struct NodeAnswer {
@@ -111,7 +109,7 @@ pub fn node_fields(a: Numbered) -> NodeAnswer
 }
 
 // The coordinates of a place.
-fn coordinates(p: Place) -> PlaceAnswer
+pub fn coordinates(p: Place) -> PlaceAnswer
     requires { ⌜ PlaceFits p ⌝ }
     ensures { λ r. ⌜ r ≡ placeFields (Found p) ⌝ }
 {
@@ -135,43 +133,6 @@ pub fn place_fields(a: Placed) -> PlaceAnswer
         Placed::Found(p) => coordinates(p),
         Placed::NotPlaced(r) => PlaceAnswer {
             refusal: r.number(),
-            x: 0,
-            y: 0,
-            z: 0,
-        },
-    }
-}
-
-// The fields of a step.
-pub fn step_fields(a: Stepped) -> StepAnswer
-    requires { ⌜ SteppedFits a ⌝ }
-    ensures { λ r. ⌜ r ≡ stepFields a ⌝ }
-{
-    match a {
-        Stepped::Led(n) => match n {
-            Next::At(q) => {
-                let p = coordinates(q);
-                return StepAnswer {
-                    refusal: 0,
-                    there: 1,
-                    x: p.x,
-                    y: p.y,
-                    z: p.z,
-                };
-            }
-            Next::Edge => {
-                return StepAnswer {
-                    refusal: 0,
-                    there: 0,
-                    x: 0,
-                    y: 0,
-                    z: 0,
-                };
-            }
-        },
-        Stepped::NotStepped(r) => StepAnswer {
-            refusal: r.number(),
-            there: 0,
             x: 0,
             y: 0,
             z: 0,

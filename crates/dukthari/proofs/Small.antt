@@ -21,6 +21,8 @@ use Rattle.mesh.specs.declared.Sizes.{Sizes}
 use Rattle.mesh.specs.declared.Place.{Place}
 use Rattle.mesh.specs.declared.Refusal.{Refusal}
 use Rattle.mesh.specs.declared.Refusal.the-variants.{BadSizes, BadLength, NoRoom, BadCell, BadNumber, Unsound, NoPair, NotHeld, FaultyEnd, NoPath, BadFile}
+use Rattle.mesh.specs.declared.Next.the-variants.{At}
+use Rattle.mesh.specs.declared.Stepped.the-variants.{Led}
 use Rattle.mesh.specs.declared.Answer.{Answer}
 use Rattle.mesh.specs.declared.Answer.the-variants.{Done, Refused}
 use Rattle.rules.specs.Marks.{marksOf}
@@ -38,7 +40,7 @@ use Rattle.talk.specs.State.{mapIn, pair, says}
 use Rattle.talk.specs.Sound.{sound, within}
 use Rattle.talk.specs.Hear.{news, outstandingOn, outstanding}
 use Rattle.talk.specs.Entries.{checkState, freshAnswer, soundAnswer, outstandingAnswer, checkWord, hearAnswer}
-use Rattle.answers.specs.Fields.{PlaceFits, PlacedFits, SteppedFits, NumberedFits, VerdictFits, MapFits}
+use Rattle.answers.specs.Fields.{PlaceFits, PlacedFits, NumberedFits, VerdictFits, MapFits}
 
 -- a check passes on the bad cell of the first refusal
 pub bad-then : (n : ℕ) (a b : Answer) → answerBad a ≤ n → (a ≡ Done → answerBad b ≤ n) → answerBad (a andThen b) ≤ n
@@ -100,7 +102,7 @@ number-fits S p =
 pub place-fits : (S : Sizes) (k : ℕ) → PlacedFits (placeAnswer S k)
 place-fits S k p e = inside-fits S p (place-inside S k p e)
 
-pub step-fits : (S : Sizes) (p : Place) (j : ℕ) → SteppedFits (stepAnswer S p j)
+pub step-fits : (S : Sizes) (p : Place) (j : ℕ) (q : Place) → stepAnswer S p j ≡ Led (At q) → PlaceFits q
 step-fits S p j q e = inside-fits S q (step-inside S p j q e)
 
 -- ---- the calls on maps

@@ -6,15 +6,17 @@ use answers::NodeAnswer;
 use answers::PlaceAnswer;
 use answers::StepAnswer;
 use answers::VerdictAnswer;
+use answers::coordinates;
 use answers::counted_fields;
 use answers::done_fields;
 use answers::node_fields;
 use answers::place_at;
 use answers::place_fields;
 use answers::sizes_of;
-use answers::step_fields;
 use answers::verdict_fields;
 use components::storing::store;
+use mesh::Next;
+use mesh::Stepped;
 use touching::Component;
 ghost use mathlib.Core.Path.{_≡_};
 ghost use lib.ListN.{length};
@@ -54,7 +56,7 @@ pub extern "C" fn dk_place(w: u32, h: u32, d: u32, node: u32) -> PlaceAnswer
     place_fields(a)
 }
 
-// A step from a place. Refusals: 1, 5.
+// A step from a place. Refusals: 1, 5. Its fields are made here: returned by a function, they took a fifth more instructions.
 #[no_mangle]
 pub extern "C" fn dk_step(
     w: u32,
@@ -68,7 +70,36 @@ pub extern "C" fn dk_step(
     ensures { λ r. ⌜ r ≡ stepFields (stepAnswer (sizes w h d) (place x y z) direction) ⌝ }
 {
     let a = mesh::entries::step_from(sizes_of(w, h, d), place_at(x, y, z), direction as usize);
-    step_fields(a)
+    match a {
+        Stepped::Led(n) => match n {
+            Next::At(q) => {
+                let p = coordinates(q);
+                return StepAnswer {
+                    refusal: 0,
+                    there: 1,
+                    x: p.x,
+                    y: p.y,
+                    z: p.z,
+                };
+            }
+            Next::Edge => {
+                return StepAnswer {
+                    refusal: 0,
+                    there: 0,
+                    x: 0,
+                    y: 0,
+                    z: 0,
+                };
+            }
+        },
+        Stepped::NotStepped(r) => StepAnswer {
+            refusal: r.number(),
+            there: 0,
+            x: 0,
+            y: 0,
+            z: 0,
+        },
+    }
 }
 
 // The mark bytes of a map in an orientation. Refusals: 1, 2, 4, 5, 3.
