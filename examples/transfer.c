@@ -1,5 +1,5 @@
 /* May a transfer go, and by which way? transfer MAP START END reads a map file and prints the hops and the nodes of the route, or the number
- * of the refusal, as include/dukthari.h has it. Status: 0 granted, 1 refused, 2 what was asked could not be read.
+ * of the refusal, as include/dukthari.h has it. Status: 0 granted, 1 refused, 2 what was asked could not be read, or the answer not be written.
  *
  *     gcc transfer.c $(pkg-config --cflags --libs dukthari) -o transfer
  */
@@ -43,19 +43,27 @@ static int transfer(size_t length, uint32_t start, uint32_t end) {
     return 0;
 }
 
+static int cannot(const char *what, const char *name) {
+    fprintf(stderr, "transfer: cannot %s %s\n", what, name);
+    return 2;
+}
+
 int main(int count, char **words) {
     FILE *from;
     size_t length;
+    int failed, status;
     if (count != 4) {
         fprintf(stderr, "usage: transfer MAP START END\n");
         return 2;
     }
     from = fopen(words[1], "rb");
-    if (from == NULL) {
-        fprintf(stderr, "transfer: cannot read %s\n", words[1]);
-        return 2;
-    }
+    if (from == NULL)
+        return cannot("read", words[1]);
     length = fread(file, 1, sizeof file, from);
+    failed = ferror(from);
     fclose(from);
-    return transfer(length, node(words[2]), node(words[3]));
+    if (failed)
+        return cannot("read", words[1]);
+    status = transfer(length, node(words[2]), node(words[3]));
+    return fflush(stdout) == 0 && !ferror(stdout) ? status : cannot("write", "standard output");
 }
