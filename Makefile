@@ -42,6 +42,7 @@ target/native/libdukthari.a: $(archive) rust/native
 	touch $@
 
 target/shared/libdukthari.so: $(here)
+	@test -s $< || { echo "$< is empty: remove it and make again" >&2; exit 1; }
 	mkdir -p $(@D)
 	$(CC) -shared -Wl,-soname,libdukthari.so -Wl,--whole-archive $< -Wl,--no-whole-archive -o $@
 
