@@ -3,39 +3,51 @@
 use crate::answers::{Counted, Done, MapAnswer, NodeAnswer, PlaceAnswer, StepAnswer, VerdictAnswer};
 use crate::{Component, Place, Sizes};
 
-/// Declares the C functions. Where no archive is linked, they cannot be asked.
-macro_rules! declare {
-    ($(fn $name:ident($($argument:ident: $kind:ty),*) -> $answer:ty;)*) => {$(
-        #[cfg(linked)]
-        extern "C" {
-            fn $name($($argument: $kind),*) -> $answer;
-        }
-        #[cfg(not(linked))]
-        #[allow(clippy::too_many_arguments)]
-        unsafe fn $name($(_: $kind),*) -> $answer {
-            panic!(concat!(stringify!($name), " is not linked: there was no archive for this machine"))
-        }
-    )*};
-}
-
-declare! {
+extern "C" {
     fn dk_number(w: u32, h: u32, d: u32, x: u32, y: u32, z: u32) -> NodeAnswer;
     fn dk_place(w: u32, h: u32, d: u32, node: u32) -> PlaceAnswer;
     fn dk_step(w: u32, h: u32, d: u32, x: u32, y: u32, z: u32, direction: u32) -> StepAnswer;
     fn dk_marks(w: u32, h: u32, d: u32, orientation: u32, cells: *const u8, cells_len: usize, out: *mut u8, out_len: usize) -> Done;
-    fn dk_components(w: u32, h: u32, d: u32, orientation: u32, cells: *const u8, cells_len: usize,
-        table: *mut u16, table_len: usize, row: *mut Component, row_len: usize) -> Counted;
+    fn dk_components(
+        w: u32,
+        h: u32,
+        d: u32,
+        orientation: u32,
+        cells: *const u8,
+        cells_len: usize,
+        table: *mut u16,
+        table_len: usize,
+        row: *mut Component,
+        row_len: usize,
+    ) -> Counted;
     fn dk_verdict(w: u32, h: u32, d: u32, start: u32, end: u32, cells: *const u8, cells_len: usize) -> VerdictAnswer;
-    fn dk_route(w: u32, h: u32, d: u32, start: u32, end: u32, cells: *const u8, cells_len: usize,
-        out: *mut u16, out_len: usize) -> Counted;
-    fn dk_reached(w: u32, h: u32, d: u32, start: u32, end: u32, cells: *const u8, cells_len: usize,
-        out: *mut u8, out_len: usize) -> Counted;
-    fn dk_fresh(w: u32, h: u32, d: u32, orientation: u32, cells: *const u8, cells_len: usize,
-        state: *mut u8, state_len: usize) -> Done;
+    fn dk_route(w: u32, h: u32, d: u32, start: u32, end: u32, cells: *const u8, cells_len: usize, out: *mut u16, out_len: usize)
+        -> Counted;
+    fn dk_reached(
+        w: u32,
+        h: u32,
+        d: u32,
+        start: u32,
+        end: u32,
+        cells: *const u8,
+        cells_len: usize,
+        out: *mut u8,
+        out_len: usize,
+    ) -> Counted;
+    fn dk_fresh(w: u32, h: u32, d: u32, orientation: u32, cells: *const u8, cells_len: usize, state: *mut u8, state_len: usize) -> Done;
     fn dk_sound(w: u32, h: u32, d: u32, orientation: u32, state: *const u8, state_len: usize) -> Done;
     fn dk_outstanding(w: u32, h: u32, d: u32, orientation: u32, state: *const u8, state_len: usize) -> Counted;
-    fn dk_hear(w: u32, h: u32, d: u32, orientation: u32, listener: u32, direction: u32, word: u32,
-        state: *mut u8, state_len: usize) -> Done;
+    fn dk_hear(
+        w: u32,
+        h: u32,
+        d: u32,
+        orientation: u32,
+        listener: u32,
+        direction: u32,
+        word: u32,
+        state: *mut u8,
+        state_len: usize,
+    ) -> Done;
     fn dk_read_map(file: *const u8, file_len: usize, cells: *mut u8, cells_len: usize) -> MapAnswer;
     fn dk_write_map(w: u32, h: u32, d: u32, cells: *const u8, cells_len: usize, out: *mut u8, out_len: usize) -> Counted;
 }

@@ -1,5 +1,4 @@
 //! What the types say of each other, on maps of every size class drawn at random from a fixed seed.
-#![allow(unknown_lints, unexpected_cfgs)]
 use dukthari::{Field, Map, Refusal, Sizes};
 
 /// A row of numbers that always is the same.
