@@ -27,7 +27,7 @@
 //!
 //! The archive must be there first: `make` at the top of the tree makes it, target/staticlib/libdukthari.a on x86-64 and
 //! target/native/libdukthari.a elsewhere. `DUKTHARI_LIB_DIR` names another folder that has it, by its full path.
-#![deny(unsafe_code)]
+#![deny(missing_docs, unsafe_code)]
 
 pub mod answers;
 #[allow(unsafe_code)]
@@ -43,7 +43,7 @@ mod sizes;
 pub use drawing::{BadDrawing, Flaw};
 pub use field::{Field, Word};
 pub use map::Map;
-pub use marks::{Component, Components, Mark, Marks};
+pub use marks::{Component, Components, Mark, Marks, NodeMarks};
 pub use refusal::Refusal;
 pub use route::{Nodes, Reached, Route, Verdict};
 pub use sizes::{Place, Sizes};
