@@ -58,7 +58,7 @@ fn text(name: &Path) -> Result<Vec<u8>, String> {
 /// A file's bytes; of one that is longer than the longest, one byte more than that.
 fn read(name: &Path) -> Result<Vec<u8>, String> {
     let mut bytes = Vec::new();
-    let read = if name == Path::new("-") {
+    let read = if name.as_os_str() == "-" {
         io::stdin().take(LONGEST + 1).read_to_end(&mut bytes)
     } else {
         File::open(name).and_then(|file| file.take(LONGEST + 1).read_to_end(&mut bytes))
