@@ -12,6 +12,11 @@ PREFIX ?= /usr/local
 DESTDIR ?=
 prefix := $(abspath $(PREFIX))
 to := $(DESTDIR)$(prefix)
+ifneq ($(filter install uninstall,$(MAKECMDGOALS)),)
+ifneq ($(words $(PREFIX)) $(words x$(DESTDIR)),1 1)
+$(error PREFIX and DESTDIR must be without blanks, and PREFIX not empty: PREFIX='$(PREFIX)' DESTDIR='$(DESTDIR)')
+endif
+endif
 
 proved := crates.txt $(shell find crates -type f -not -path '*/must-fail/*')
 wrapper := rust/Cargo.toml rust/Cargo.lock $(shell find rust/dukthari rust/draw -type f)
@@ -33,9 +38,11 @@ $(archive): $(proved)
 
 target/native/libdukthari.a: $(archive) rust/native
 	rust/native
+	test -s $@
 	touch $@
 
 target/shared/libdukthari.so: $(here)
+	@test -s $< || { echo "$< is empty: remove it and make again" >&2; exit 1; }
 	mkdir -p $(@D)
 	$(CC) -shared -Wl,-soname,libdukthari.so -Wl,--whole-archive $< -Wl,--no-whole-archive -o $@
 
@@ -47,7 +54,9 @@ install: $(archive)
 	install -d $(to)/include $(to)/lib/pkgconfig
 	install -m 644 include/dukthari.h $(to)/include/dukthari.h
 	install -m 644 $(archive) $(to)/lib/libdukthari.a
-	sed -e 's|@PREFIX@|$(prefix)|' -e 's|@VERSION@|$(VERSION)|' dukthari.pc.in >$(to)/lib/pkgconfig/dukthari.pc
+	rm -f target/dukthari.pc
+	sed -e 's|@PREFIX@|$(prefix)|' -e 's|@VERSION@|$(VERSION)|' dukthari.pc.in >target/dukthari.pc
+	install -m 644 target/dukthari.pc $(to)/lib/pkgconfig/dukthari.pc
 
 uninstall:
 	rm -f $(to)/include/dukthari.h $(to)/lib/libdukthari.a $(to)/lib/pkgconfig/dukthari.pc

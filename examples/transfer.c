@@ -1,5 +1,5 @@
-/* May a transfer go, and by which way? transfer MAP START END reads a map file and prints the hops and the nodes of the route, or the number
- * of the refusal, as include/dukthari.h has it. Status: 0 granted, 1 refused, 2 what was asked could not be read.
+/* May a transfer go, and by which way? transfer MAP START END reads a map file and prints the hops and the nodes of the route, or why it was
+ * refused. Status: 0 granted, 1 refused, 2 what was asked could not be read, or the answer not be written.
  *
  *     gcc transfer.c $(pkg-config --cflags --libs dukthari) -o transfer
  */
@@ -8,14 +8,14 @@
 #include <stdlib.h>
 
 /* the largest file, and one byte more, so that a longer one is seen */
-static uint8_t file[65536 + 1];
-static uint8_t cells[4096];
+static uint8_t file[DK_LONGEST_FILE + 1];
+static uint8_t cells[DK_MOST_NODES];
 
 static int refused(uint32_t number, uint32_t bad) {
+    printf("refused %u: %s", (unsigned)number, dk_reason(number));
     if (number == DK_BAD_CELL)
-        printf("refused %u at node %u\n", (unsigned)number, (unsigned)bad);
-    else
-        printf("refused %u\n", (unsigned)number);
+        printf(", the first at node %u", (unsigned)bad);
+    printf("\n");
     return 1;
 }
 
@@ -27,13 +27,13 @@ static uint32_t node(const char *word) {
 }
 
 static int transfer(size_t length, uint32_t start, uint32_t end) {
-    uint16_t nodes[46];
+    uint16_t nodes[DK_LONGEST_ROUTE];
     dk_counted route;
     uint32_t i;
     dk_map_answer map = dk_read_map(file, length, cells, sizeof cells);
     if (map.refusal != 0)
         return refused(map.refusal, map.bad);
-    route = dk_route(map.w, map.h, map.d, start, end, cells, (size_t)map.w * map.h * map.d, nodes, 46);
+    route = dk_route(map.w, map.h, map.d, start, end, cells, (size_t)map.w * map.h * map.d, nodes, DK_LONGEST_ROUTE);
     if (route.refusal != 0)
         return refused(route.refusal, route.bad);
     printf("%u hops:", (unsigned)route.count - 1);
@@ -43,19 +43,27 @@ static int transfer(size_t length, uint32_t start, uint32_t end) {
     return 0;
 }
 
+static int cannot(const char *what, const char *name) {
+    fprintf(stderr, "transfer: cannot %s %s\n", what, name);
+    return 2;
+}
+
 int main(int count, char **words) {
     FILE *from;
     size_t length;
+    int failed, status;
     if (count != 4) {
         fprintf(stderr, "usage: transfer MAP START END\n");
         return 2;
     }
     from = fopen(words[1], "rb");
-    if (from == NULL) {
-        fprintf(stderr, "transfer: cannot read %s\n", words[1]);
-        return 2;
-    }
+    if (from == NULL)
+        return cannot("read", words[1]);
     length = fread(file, 1, sizeof file, from);
+    failed = ferror(from);
     fclose(from);
-    return transfer(length, node(words[2]), node(words[3]));
+    if (failed)
+        return cannot("read", words[1]);
+    status = transfer(length, node(words[2]), node(words[3]));
+    return fflush(stdout) == 0 && !ferror(stdout) ? status : cannot("write", "standard output");
 }

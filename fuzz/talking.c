@@ -194,7 +194,9 @@ int LLVMFuzzerTestOneInput(const uint8_t *data, size_t size) {
     w = next() % 19, h = next() % 19, d = next() % 19, orientation = next() % 10, shape = next();
     nodes = in_range(w, h, d) ? w * h * d : 0;
     length = 7 * (size_t)(nodes == 0 ? 4 : nodes);
-    if (shape >= 240) /* another length, shorter or longer */
+    if (shape >= 254) /* any shorter length */
+        length = next16() % length;
+    else if (shape >= 240) /* another length, a little shorter or longer */
         length = length + (shape & 15) - 8;
     state = lent(NULL, length);
     if (shape % 2 == 0) {

@@ -9,7 +9,8 @@
  * Every call takes every number and every length: none is undefined on any. A pointer leads to as many elements as the length after it
  * says, and may be NULL where that is 0; what is lent to be written overlaps nothing else that is lent. In each answer `refusal` is 0 when
  * the call is granted, else the number of the first cause, in the order that stands at the call, and then every other field is 0, except
- * that refusal 4 gives the node number of the first bad cell in `bad`. A refused call changes no lent byte. */
+ * that refusal 4 gives the node number of the first bad cell in `bad`. A refused call changes no lent byte.
+ * Nothing is kept between calls: they may be made from several threads at once. */
 #ifndef DUKTHARI_H
 #define DUKTHARI_H
 
@@ -31,6 +32,44 @@ extern "C" {
 #define DK_FAULTY_END 9u /* start or end of a route is faulty */
 #define DK_NO_PATH 10u   /* no path */
 #define DK_BAD_FILE 11u  /* file: length, mark, zero byte or distance wrong */
+
+#define DK_MOST_NODES       4096u /* of a mesh */
+#define DK_MOST_COMPONENTS  1024u /* of a mesh, in one orientation */
+#define DK_LONGEST_ROUTE      46u /* nodes of a route: 45 hops, and the start */
+#define DK_LONGEST_FILE    65536u /* bytes of a map file */
+
+/* A refusal in words: those of the wrapper for Rust (rust/dukthari/src/refusal.rs), whose tests hold these to them; the audit has shorter ones of
+ * its own. This is no call of the library. */
+static inline const char *dk_reason(uint32_t refusal) {
+    switch (refusal) {
+    case 0u:
+        return "granted";
+    case DK_BAD_SIZES:
+        return "width and height must be 2 to 16, depth 1 to 16";
+    case DK_BAD_LENGTH:
+        return "the cells must be exactly one byte for each node, a state exactly seven";
+    case DK_NO_ROOM:
+        return "an output that was lent is shorter than what is to be written";
+    case DK_BAD_CELL:
+        return "a cell is neither 0 (works) nor 1 (faulty)";
+    case DK_BAD_NUMBER:
+        return "an orientation above 7, a node or place outside the mesh, a direction above 5, or a word that is not 0, 2, 4 or 6";
+    case DK_UNSOUND:
+        return "the state is not sound for this orientation";
+    case DK_NO_PAIR:
+        return "the listener is faulty, or its neighbour in that direction is absent or faulty";
+    case DK_NOT_HELD:
+        return "the word holds a mark that the speaker lacks now";
+    case DK_FAULTY_END:
+        return "the start or the end of the route is faulty";
+    case DK_NO_PATH:
+        return "no path: every way of the least length from start to end meets a faulty node";
+    case DK_BAD_FILE:
+        return "no map file: its length, mark, zero byte or distance is wrong";
+    default:
+        return "no refusal of this library";
+    }
+}
 
 typedef struct { uint32_t refusal, bad; } dk_done;
 typedef struct { uint32_t refusal, bad, count; } dk_counted; /* a number, or a length written */

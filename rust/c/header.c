@@ -1,6 +1,5 @@
-/* The header as a C and a C++ program sees it: sizes and fields of the answers, and each call, on meshes whose sizes differ and on the scope
- * paper's samples, so that no two fields or arguments can be exchanged unseen. Prints how many checks held; ends with status 1 at the first
- * that does not. */
+/* The header as a C and a C++ program sees it: sizes and fields of the answers, the words of the refusals, and each call, on a mesh whose
+ * sizes differ and on the scope paper's samples. Prints how many checks held; ends with status 1 at the first that does not. */
 #include "dukthari.h"
 #include <stddef.h>
 #include <stdio.h>
@@ -200,8 +199,51 @@ static void files(void) {
     CHECK(a.refusal == DK_NO_ROOM && a.bad == 0 && memcmp(cells, P, 25) == 0);
 }
 
+/* 3 x 2 x 1, each call but those on places */
+static void flat(void) {
+    /* (1,0) and (0,1) faulty: (0,0) is useless, (1,1) can't-reach */
+    static const uint8_t cells[6] = {0, 1, 0, 1, 0, 0}, marks[6] = {2, 1, 0, 1, 4, 0};
+    static const uint16_t numbers[6] = {1, 1, 0, 1, 1, 0};
+    /* (1,0) faulty: from (0,1) to (2,0) the one way is 3 4 5 2 */
+    static const uint8_t one[6] = {0, 1, 0, 0, 0, 0}, reached[6] = {1, 0, 1, 1, 1, 1};
+    static const uint16_t way[4] = {3, 4, 5, 2};
+    static const uint8_t trailer[12] = {3, 2, 1, 0, 18, 0, 0, 0, 0x46, 0x4C, 0x44, 0x31};
+    uint8_t out[7], state[42], file[19];
+    uint16_t table[8], nodes[5];
+    dk_component row[3];
+    dk_map_answer map;
+    CHECK(is_done(dk_marks(3, 2, 1, 0, cells, 6, out, 7), 0, 0) && memcmp(out, marks, 6) == 0);
+    CHECK(is_counted(dk_components(3, 2, 1, 0, cells, 6, table, 8, row, 3), 0, 0, 1) && memcmp(table, numbers, sizeof numbers) == 0);
+    CHECK(row[0].count == 4 && row[0].x0 == 0 && row[0].y0 == 0 && row[0].z0 == 0 && row[0].x1 == 1 && row[0].y1 == 1 && row[0].z1 == 0);
+    CHECK(is_verdict(dk_verdict(3, 2, 1, 3, 2, one, 6), 0, 0, 3, 1));
+    CHECK(is_verdict(dk_verdict(3, 2, 1, 2, 3, one, 6), 0, 0, 3, 4));
+    CHECK(is_counted(dk_route(3, 2, 1, 3, 2, one, 6, nodes, 5), 0, 0, 4) && memcmp(nodes, way, sizeof way) == 0);
+    CHECK(is_counted(dk_reached(3, 2, 1, 3, 2, one, 6, out, 7), 0, 0, 5) && memcmp(out, reached, 6) == 0);
+    CHECK(is_done(dk_fresh(3, 2, 1, 0, cells, 6, state, 42), 0, 0) && state[7 * 0] == 2 && state[7 * 4] == 4);
+    CHECK(is_done(dk_sound(3, 2, 1, 0, state, 42), 0, 0));
+    CHECK(is_counted(dk_outstanding(3, 2, 1, 0, state, 42), 0, 0, 1));
+    CHECK(is_done(dk_hear(3, 2, 1, 0, 5, 1, 4, state, 42), 0, 0) && state[7 * 5 + 2] == 4);
+    CHECK(is_counted(dk_outstanding(3, 2, 1, 0, state, 42), 0, 0, 0));
+    CHECK(is_counted(dk_write_map(3, 2, 1, cells, 6, file, 19), 0, 0, 18));
+    CHECK(memcmp(file, cells, 6) == 0 && memcmp(file + 6, trailer, 12) == 0);
+    map = dk_read_map(file, 18, out, 7);
+    CHECK(map.refusal == 0 && map.w == 3 && map.h == 2 && map.d == 1 && memcmp(out, cells, 6) == 0);
+}
+
+static void names(void) {
+    uint32_t i, j;
+    CHECK(DK_MOST_NODES == 16 * 16 * 16 && DK_LONGEST_ROUTE == 3 * 15 + 1 && DK_LONGEST_FILE == 65536u && DK_MOST_COMPONENTS == 1024u);
+    CHECK(strcmp(dk_reason(0), "granted") == 0 && strncmp(dk_reason(DK_NO_PATH), "no path", 7) == 0);
+    CHECK(strcmp(dk_reason(12), dk_reason(UINT32_MAX)) == 0);
+    for (i = 0; i <= 12; i++)
+        for (j = 0; j < i; j++)
+            CHECK(strcmp(dk_reason(i), dk_reason(j)) != 0);
+}
+
 int main(void) {
     layout();
+    names();
+    flat();
     places();
     marks();
     routes();

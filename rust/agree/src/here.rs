@@ -1,4 +1,4 @@
-//! The three that are in this program: the search program, the plain one, and the library where it is linked.
+//! The three that are in this program: the search program, the plain one, and the library as the wrapper calls it.
 use crate::call::Call;
 use crate::library::Here;
 use crate::request::Request;

@@ -6,8 +6,7 @@
 //!     agree reports PROGRAM [WORD..]    the report's text, as a program prints it that is started by these words and names of files
 //!     agree audits PROGRAM [WORD..]     likewise the auditor's page, for pairs of a map file and a log
 //!
-//! The calls as the Rust wrapper makes them are compared beside them, where there is an archive for this machine. With `plain` the plain Rust
-//! program, the yardstick for speed, is compared too.
+//! The calls as the Rust wrapper makes them are compared beside them. With `plain` the plain Rust program, the yardstick for speed, is compared too.
 
 mod audits;
 mod call;
@@ -27,7 +26,7 @@ mod routes;
 mod samples;
 
 use comparison::{Comparison, Tally};
-use library::{stop, Library, Served};
+use library::{Library, Served};
 use std::sync::Mutex;
 use std::thread;
 
@@ -61,9 +60,7 @@ fn open(plain: bool, words: &[String]) -> Vec<Box<dyn Library>> {
     if !words.is_empty() {
         libraries.push(Box::new(Served::start(words)));
     }
-    if dukthari::LINKED {
-        libraries.push(Box::new(here::LINKED));
-    }
+    libraries.push(Box::new(here::LINKED));
     if plain {
         libraries.push(Box::new(here::PLAIN));
     }
@@ -83,10 +80,6 @@ fn main() {
         words.remove(0);
     }
     let libraries = open(plain, &words);
-    if libraries.is_empty() {
-        stop("there is no archive for this machine: name a program that serves it");
-    }
-
     let jobs = Mutex::new(jobs());
     let next = || jobs.lock().unwrap().pop();
     let work = || {

@@ -1,9 +1,12 @@
 //! `draw map DRAWING` writes the map file of a text drawing to standard output, `draw text MAP` the drawing of a map file. Files are read and
 //! written by the proved library.
-use dukthari::Map;
+use dukthari::{BadDrawing, Map};
+use std::ffi::OsString;
+use std::fs::File;
 use std::io::{Read, Write};
+use std::path::Path;
 use std::process::ExitCode;
-use std::{env, fs, io, str};
+use std::{env, io, str};
 
 const HELP: &str = "\
 usage: ./draw map DRAWING > MAP    the map file of a text drawing
@@ -21,35 +24,56 @@ each other, y rising downwards. A blank line stands between layers, z rising. A 
     #..
 ";
 
+/// The longest file that is read, a map or a drawing.
+const LONGEST: u64 = 65_536;
+
 /// What standard output is to get, or what is wrong.
-fn drawn(arguments: &[String]) -> Result<Vec<u8>, String> {
-    let words: Vec<&str> = arguments.iter().map(String::as_str).collect();
-    match words[..] {
-        [] | ["-h" | "--help"] => Ok(HELP.into()),
-        ["map", name] => {
-            let bytes = read(name)?;
-            let text = str::from_utf8(&bytes).map_err(|_| format!("{name}: a drawing is text, and this is not"))?;
-            let map: Map = text.parse().map_err(|bad| format!("{name}: {bad}"))?;
-            Ok(map.to_file())
-        }
-        ["text", name] => {
-            let map = Map::from_file(&read(name)?).map_err(|refusal| format!("{name}: {refusal}"))?;
-            Ok(map.to_string().into())
-        }
+fn drawn(words: &[OsString]) -> Result<Vec<u8>, String> {
+    match words {
+        [] => Ok(HELP.into()),
+        [word] if word == "-h" || word == "--help" => Ok(HELP.into()),
+        [word, name] if word == "map" => map(Path::new(name)).map_err(|why| format!("{}: {why}", Path::new(name).display())),
+        [word, name] if word == "text" => text(Path::new(name)).map_err(|why| format!("{}: {why}", Path::new(name).display())),
         _ => Err("usage: ./draw map DRAWING > MAP, or ./draw text MAP; --help says more".into()),
     }
 }
 
-fn read(name: &str) -> Result<Vec<u8>, String> {
+/// The map file of a drawing.
+fn map(name: &Path) -> Result<Vec<u8>, String> {
+    let bytes = read(name)?;
+    if bytes.len() as u64 > LONGEST {
+        return Err(format!("a drawing has at most {LONGEST} bytes"));
+    }
+    let text = str::from_utf8(&bytes).map_err(|_| "a drawing is text, and this is not")?;
+    let map: Map = text.parse().map_err(|bad: BadDrawing| bad.to_string())?;
+    Ok(map.to_file())
+}
+
+/// The drawing of a map file.
+fn text(name: &Path) -> Result<Vec<u8>, String> {
+    let map = Map::from_file(&read(name)?).map_err(|refusal| refusal.to_string())?;
+    Ok(map.to_string().into())
+}
+
+/// A file's bytes; of one that is longer than the longest, one byte more than that.
+fn read(name: &Path) -> Result<Vec<u8>, String> {
     let mut bytes = Vec::new();
-    let read = if name == "-" { io::stdin().read_to_end(&mut bytes).map(|_| bytes) } else { fs::read(name) };
-    read.map_err(|error| format!("{name}: {error}"))
+    let read = if name.as_os_str() == "-" {
+        io::stdin().take(LONGEST + 1).read_to_end(&mut bytes)
+    } else {
+        File::open(name).and_then(|file| file.take(LONGEST + 1).read_to_end(&mut bytes))
+    };
+    read.map(|_| bytes).map_err(|error| error.to_string())
+}
+
+fn write(bytes: &[u8]) -> Result<(), String> {
+    let mut to = io::stdout();
+    to.write_all(bytes).and_then(|()| to.flush()).map_err(|error| format!("standard output: {error}"))
 }
 
 fn main() -> ExitCode {
-    let arguments: Vec<String> = env::args().skip(1).collect();
-    let written = drawn(&arguments).and_then(|bytes| io::stdout().write_all(&bytes).map_err(|error| format!("standard output: {error}")));
-    match written {
+    let words: Vec<OsString> = env::args_os().skip(1).collect();
+    match drawn(&words).and_then(|bytes| write(&bytes)) {
         Ok(()) => ExitCode::SUCCESS,
         Err(why) => {
             eprintln!("draw: {why}");

@@ -1,11 +1,12 @@
 //! The command as people use it: both ways, from a file and from standard input, and what it says of what it cannot take.
+use std::ffi::OsStr;
 use std::io::Write;
 use std::path::{Path, PathBuf};
 use std::process::{Command, Output, Stdio};
 use std::{env, fs, process};
 
 /// Runs the command with this standard input.
-fn draw(arguments: &[&str], input: &[u8]) -> Output {
+fn draw<W: AsRef<OsStr>>(arguments: &[W], input: &[u8]) -> Output {
     let mut command = Command::new(env!("CARGO_BIN_EXE_draw"));
     command.args(arguments).stdin(Stdio::piped()).stdout(Stdio::piped()).stderr(Stdio::piped());
     let mut running = command.spawn().unwrap();
@@ -41,7 +42,7 @@ fn each_map_has_its_drawing() {
         let drawn = draw(&["text", map.to_str().unwrap()], b"");
         assert!(drawn.status.success() && drawn.stdout == text, "{} is not the drawing of {}", drawing.display(), map.display());
         let made = draw(&["map", drawing.to_str().unwrap()], b"");
-        assert!(made.status.success() && fs::read(&map).unwrap().ends_with(&made.stdout), "{}", map.display());
+        assert!(made.status.success() && made.stdout == fs::read(&map).unwrap(), "{}", map.display());
     }
 }
 
@@ -80,7 +81,7 @@ fn a_bad_map_is_refused_by_its_number() {
 fn help_and_usage() {
     let (helped, help, _) = said(&draw(&["--help"], b""));
     assert!(helped && help.starts_with("usage: ./draw map DRAWING > MAP"));
-    assert_eq!(said(&draw(&[], b"")).1, help);
+    assert_eq!(said(&draw::<&str>(&[], b"")).1, help);
     let example = help.split("are faulty:\n").nth(1).unwrap().replace(' ', "");
     let made = draw(&["map", "-"], example.as_bytes()).stdout;
     assert_eq!(said(&draw(&["text", "-"], &made)).1, "..#\n...\n\n...\n#..\n");
@@ -88,4 +89,40 @@ fn help_and_usage() {
     assert!(!understood && usage.starts_with("draw: usage"));
     let (found, _, missing) = said(&draw(&["text", "no such file"], b""));
     assert!(!found && missing.starts_with("draw: no such file: "));
+}
+
+#[test]
+fn a_file_too_long_is_refused() {
+    let long = vec![b'\n'; 65_536];
+    let good = [&b"..\n..\n"[..], &long[..65_530]].concat();
+    assert!(draw(&["map", "-"], &good).status.success());
+    let output = draw(&["map", "-"], &[&good[..], b"\n"].concat());
+    assert_eq!(said(&output), (false, "".into(), "draw: -: a drawing has at most 65536 bytes\n".into()));
+    let end = b"\0\0\0\x01\x02\x02\x01\0\x10\0\0\0FLD1";
+    let good = [&long[..65_520], end].concat();
+    assert_eq!(said(&draw(&["text", "-"], &good)), (true, "..\n.#\n".into(), "".into()));
+    let output = draw(&["text", "-"], &[&long[..65_521], end].concat());
+    assert!(said(&output).2.starts_with("draw: -: refused 11: "));
+}
+
+#[cfg(target_os = "linux")]
+#[test]
+fn a_failed_write_is_told() {
+    for (drawing, map) in maps() {
+        for (way, name) in [("map", drawing), ("text", map)] {
+            let full = fs::OpenOptions::new().write(true).open("/dev/full").unwrap();
+            let output = Command::new(env!("CARGO_BIN_EXE_draw")).arg(way).arg(&name).stdout(full).output().unwrap();
+            let (done, _, why) = said(&output);
+            assert!(!done && why.starts_with("draw: standard output: "), "{way} {}: {why}", name.display());
+        }
+    }
+}
+
+#[cfg(unix)]
+#[test]
+fn a_file_name_may_be_any_bytes() {
+    use std::os::unix::ffi::OsStrExt;
+    let output = draw(&[OsStr::new("text"), OsStr::from_bytes(b"no such \xff file")], b"");
+    assert_eq!(output.status.code(), Some(1));
+    assert!(said(&output).2.starts_with("draw: no such \u{fffd} file: "));
 }

@@ -10,22 +10,35 @@ use std::str::FromStr;
 /// let bad = "...\n.x.\n...".parse::<dukthari::Map>().unwrap_err();
 /// assert_eq!(bad.to_string(), "line 2, column 2: 'x' is neither '.' (works) nor '#' (faulty)");
 /// ```
-#[derive(Clone, Copy, Debug, PartialEq, Eq)]
+#[derive(Clone, Copy, Debug, PartialEq, Eq, Hash)]
 pub struct BadDrawing {
+    /// The line.
     pub line: usize,
+    /// The character in it.
     pub column: usize,
+    /// What is wrong there.
     pub flaw: Flaw,
 }
 
 /// What is wrong there.
-#[derive(Clone, Copy, Debug, PartialEq, Eq)]
+#[derive(Clone, Copy, Debug, PartialEq, Eq, Hash)]
 pub enum Flaw {
     /// A character that is neither `.` nor `#`.
     Character(char),
     /// A row that has not as many characters as the first.
-    Row { has: usize, first: usize },
+    Row {
+        /// Its characters.
+        has: usize,
+        /// Those of the first.
+        first: usize,
+    },
     /// A layer that has not as many rows as the first.
-    Layer { has: usize, first: usize },
+    Layer {
+        /// Its rows.
+        has: usize,
+        /// Those of the first.
+        first: usize,
+    },
     /// A row of more than 16 characters, or fewer than 2.
     Width,
     /// A layer of more than 16 rows, or fewer than 2.

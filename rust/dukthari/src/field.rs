@@ -21,7 +21,7 @@ use crate::{Map, Mark, Marks, Refusal, Sizes};
 /// assert_eq!(field.marks(), map.marks(0)?);
 /// # Ok::<(), Box<dyn std::error::Error>>(())
 /// ```
-#[derive(Clone, Debug, PartialEq, Eq)]
+#[derive(Clone, Debug, PartialEq, Eq, Hash)]
 pub struct Field {
     sizes: Sizes,
     orientation: u32,
@@ -31,8 +31,11 @@ pub struct Field {
 /// A word that a listener has yet to hear from its neighbour in a direction: 0, 2, 4 or 6.
 #[derive(Clone, Copy, Debug, PartialEq, Eq, Hash)]
 pub struct Word {
+    /// The number of the node that is to hear it.
     pub listener: u32,
+    /// Where the listener's neighbour, the speaker, is.
     pub direction: u32,
+    /// The speaker's own byte: 0 no mark, 2 useless, 4 can't-reach, 6 both.
     pub word: u32,
 }
 
@@ -56,10 +59,12 @@ impl Field {
         &self.state
     }
 
+    /// The mesh's sizes.
     pub fn sizes(&self) -> Sizes {
         self.sizes
     }
 
+    /// The orientation that its marks are for.
     pub fn orientation(&self) -> u32 {
         self.orientation
     }

@@ -26,9 +26,8 @@
 //! [`calls`] have them as they come, field by field.
 //!
 //! The archive must be there first: `make` at the top of the tree makes it, target/staticlib/libdukthari.a on x86-64 and
-//! target/native/libdukthari.a elsewhere. Without it this crate is built all the same, with a warning, and each call panics.
-#![allow(unknown_lints, unexpected_cfgs)] // build.rs sets `linked`
-#![deny(unsafe_code)]
+//! target/native/libdukthari.a elsewhere. `DUKTHARI_LIB_DIR` names another folder that has it, by its full path.
+#![deny(missing_docs, unsafe_code)]
 
 pub mod answers;
 #[allow(unsafe_code)]
@@ -44,10 +43,7 @@ mod sizes;
 pub use drawing::{BadDrawing, Flaw};
 pub use field::{Field, Word};
 pub use map::Map;
-pub use marks::{Component, Components, Mark, Marks};
+pub use marks::{Component, Components, Mark, Marks, NodeMarks};
 pub use refusal::Refusal;
 pub use route::{Nodes, Reached, Route, Verdict};
 pub use sizes::{Place, Sizes};
-
-/// Whether there was an archive to link.
-pub const LINKED: bool = cfg!(linked);

@@ -63,6 +63,7 @@ impl Map {
         file
     }
 
+    /// The mesh's sizes.
     pub fn sizes(&self) -> Sizes {
         self.sizes
     }
@@ -79,16 +80,41 @@ impl Map {
 
     /// Enters a node as faulty. A dead link is entered by both its ends. Refusal: 5.
     pub fn fail(&mut self, at: Place) -> Result<(), Refusal> {
-        let node = self.sizes.number(at)?;
-        self.cells[node as usize] = 1;
-        Ok(())
+        self.fail_node(self.sizes.number(at)?)
+    }
+
+    /// Enters the node of this number as faulty. Refusal: 5.
+    pub fn fail_node(&mut self, node: u32) -> Result<(), Refusal> {
+        self.enter(node, 1)
     }
 
     /// Enters a node as working. Refusal: 5.
     pub fn repair(&mut self, at: Place) -> Result<(), Refusal> {
-        let node = self.sizes.number(at)?;
-        self.cells[node as usize] = 0;
+        self.repair_node(self.sizes.number(at)?)
+    }
+
+    /// Enters the node of this number as working. Refusal: 5.
+    ///
+    /// ```
+    /// let mut map: dukthari::Map = "..\n.#".parse()?;
+    /// map.fail_node(1)?;
+    /// map.repair_node(3)?;
+    /// assert_eq!((map.is_faulty(1)?, map.is_faulty(3)?), (true, false));
+    /// assert_eq!(map.fail_node(4), Err(dukthari::Refusal::BadNumber));
+    /// # Ok::<(), Box<dyn std::error::Error>>(())
+    /// ```
+    pub fn repair_node(&mut self, node: u32) -> Result<(), Refusal> {
+        self.enter(node, 0)
+    }
+
+    fn enter(&mut self, node: u32, cell: u8) -> Result<(), Refusal> {
+        *self.cells.get_mut(node as usize).ok_or(Refusal::BadNumber)? = cell;
         Ok(())
+    }
+
+    /// Whether the node of this number is faulty. Refusal: 5.
+    pub fn is_faulty(&self, node: u32) -> Result<bool, Refusal> {
+        self.cells.get(node as usize).map(|cell| *cell != 0).ok_or(Refusal::BadNumber)
     }
 
     /// The mark of each node in an orientation. Refusal: 5.
@@ -144,7 +170,7 @@ impl Map {
     /// let map: dukthari::Map = "..#\n...\n#..".parse()?;
     /// let route = map.route(0, 8)?;
     /// for place in route.places() {
-    ///     println!("({}, {}, {})", place.x, place.y, place.z);
+    ///     println!("{place}");
     /// }
     /// assert_eq!(route.iter().collect::<Vec<u32>>(), [0, 1, 4, 5, 8]);
     /// # Ok::<(), Box<dyn std::error::Error>>(())

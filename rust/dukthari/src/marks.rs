@@ -15,6 +15,7 @@ impl Mark {
         self.0 == 0
     }
 
+    /// Does not work.
     pub fn is_faulty(self) -> bool {
         self.0 & 1 != 0
     }
@@ -31,7 +32,7 @@ impl Mark {
 }
 
 /// The mark of each node in one orientation.
-#[derive(Clone, Debug, PartialEq, Eq)]
+#[derive(Clone, Debug, PartialEq, Eq, Hash)]
 pub struct Marks {
     pub(crate) bytes: Vec<u8>,
 }
@@ -48,22 +49,59 @@ impl Marks {
     }
 
     /// Each node with its mark, in node order.
-    pub fn iter(&self) -> impl Iterator<Item = (u32, Mark)> + '_ {
-        (0..).zip(self.bytes.iter().map(|byte| Mark(*byte)))
+    pub fn iter(&self) -> NodeMarks<'_> {
+        NodeMarks(self.bytes.iter().enumerate())
     }
 }
+
+/// ```
+/// let map: dukthari::Map = "..\n.#".parse()?;
+/// for (node, mark) in &map.marks(0)? {
+///     assert_eq!(mark.is_faulty(), node == 3);
+/// }
+/// # Ok::<(), Box<dyn std::error::Error>>(())
+/// ```
+impl<'a> IntoIterator for &'a Marks {
+    type Item = (u32, Mark);
+    type IntoIter = NodeMarks<'a>;
+
+    fn into_iter(self) -> NodeMarks<'a> {
+        self.iter()
+    }
+}
+
+/// Each node of [`Marks`] with its mark.
+#[derive(Clone, Debug)]
+pub struct NodeMarks<'a>(std::iter::Enumerate<std::slice::Iter<'a, u8>>);
+
+impl Iterator for NodeMarks<'_> {
+    type Item = (u32, Mark);
+
+    fn next(&mut self) -> Option<(u32, Mark)> {
+        self.0.next().map(|(node, byte)| (node as u32, Mark(*byte)))
+    }
+
+    fn size_hint(&self) -> (usize, Option<usize>) {
+        self.0.size_hint()
+    }
+}
+
+impl ExactSizeIterator for NodeMarks<'_> {}
 
 /// A component: its number of nodes, and the least and the greatest x, y and z among them.
 #[repr(C)]
 #[derive(Clone, Copy, Debug, Default, PartialEq, Eq, Hash)]
 pub struct Component {
+    /// How many nodes it has.
     pub count: u16,
+    /// The least x, y and z.
     pub least: [u8; 3],
+    /// The greatest x, y and z.
     pub greatest: [u8; 3],
 }
 
 /// The components of the unsafe nodes in one orientation, numbered from 1 by their lowest node.
-#[derive(Clone, Debug, PartialEq, Eq)]
+#[derive(Clone, Debug, PartialEq, Eq, Hash)]
 pub struct Components {
     pub(crate) table: Vec<u16>,
     pub(crate) records: Vec<Component>,

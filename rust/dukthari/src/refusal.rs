@@ -18,7 +18,10 @@ pub enum Refusal {
     /// 3: an output that was lent is too short
     NoRoom,
     /// 4: a byte that is no cell, with the number of the first such node
-    BadCell { node: u32 },
+    BadCell {
+        /// The node of the first bad cell.
+        node: u32,
+    },
     /// 5: an orientation, node, place, direction or word outside its range
     BadNumber,
     /// 6: the state is not sound for this orientation

@@ -4,7 +4,9 @@ use crate::{Place, Sizes};
 /// The hops from start to end, and the directions in which a path begins: bit k for direction k.
 #[derive(Clone, Copy, Debug, PartialEq, Eq, Hash)]
 pub struct Verdict {
+    /// How many steps a path has.
     pub hops: u32,
+    /// Bit k is set when a path begins in direction k.
     pub offered: u32,
 }
 
@@ -27,7 +29,7 @@ impl Verdict {
 /// }
 /// # Ok::<(), Box<dyn std::error::Error>>(())
 /// ```
-#[derive(Clone, Debug, PartialEq, Eq)]
+#[derive(Clone, Debug, PartialEq, Eq, Hash)]
 pub struct Route {
     pub(crate) sizes: Sizes,
     pub(crate) nodes: Vec<u16>,
@@ -42,6 +44,7 @@ impl Route {
         &self.nodes
     }
 
+    /// How many steps it has.
     pub fn hops(&self) -> usize {
         self.nodes.len() - 1
     }
@@ -97,7 +100,7 @@ impl DoubleEndedIterator for Nodes<'_> {
 impl ExactSizeIterator for Nodes<'_> {}
 
 /// The nodes that paths towards an end reach from a start.
-#[derive(Clone, Debug, PartialEq, Eq)]
+#[derive(Clone, Debug, PartialEq, Eq, Hash)]
 pub struct Reached {
     pub(crate) bytes: Vec<u8>,
     pub(crate) count: usize,
@@ -117,5 +120,16 @@ impl Reached {
     /// How many nodes are reached.
     pub fn count(&self) -> usize {
         self.count
+    }
+
+    /// The numbers of the nodes that are reached, in rising order.
+    ///
+    /// ```
+    /// let map: dukthari::Map = "...\n.#.\n...".parse()?;
+    /// assert_eq!(map.reached(3, 5)?.iter().collect::<Vec<_>>(), [3]);
+    /// # Ok::<(), Box<dyn std::error::Error>>(())
+    /// ```
+    pub fn iter(&self) -> impl Iterator<Item = u32> + '_ {
+        (0..).zip(&self.bytes).filter(|(_, byte)| **byte == 1).map(|(node, _)| node)
     }
 }

@@ -1,5 +1,6 @@
 //! Sizes and places, and every call with the caller's own slices.
 use crate::{calls, Component, Refusal, Verdict};
+use std::fmt;
 
 /// The sizes of a mesh. Any numbers may be asked: a call refuses those outside 2 to 16, 2 to 16 and 1 to 16.
 ///
@@ -17,16 +18,42 @@ use crate::{calls, Component, Refusal, Verdict};
 /// ```
 #[derive(Clone, Copy, Debug, PartialEq, Eq, Hash)]
 pub struct Sizes {
+    /// The width: how many places there are along X.
     pub w: u32,
+    /// The height: along Y.
     pub h: u32,
+    /// The depth: along Z; 1 in a flat mesh.
     pub d: u32,
 }
 
+/// Where a node is. Any numbers may be asked: a call refuses a place outside the mesh.
+///
+/// ```
+/// use dukthari::{Place, Sizes};
+///
+/// assert_eq!(Place { x: 4, y: 1, z: 0 }.to_string(), "(4, 1, 0)");
+/// assert_eq!(Sizes { w: 5, h: 4, d: 3 }.to_string(), "5 x 4 x 3");
+/// ```
 #[derive(Clone, Copy, Debug, PartialEq, Eq, Hash)]
 pub struct Place {
+    /// Its place along X, from 0.
     pub x: u32,
+    /// Along Y.
     pub y: u32,
+    /// Along Z.
     pub z: u32,
+}
+
+impl fmt::Display for Sizes {
+    fn fmt(&self, f: &mut fmt::Formatter<'_>) -> fmt::Result {
+        write!(f, "{} x {} x {}", self.w, self.h, self.d)
+    }
+}
+
+impl fmt::Display for Place {
+    fn fmt(&self, f: &mut fmt::Formatter<'_>) -> fmt::Result {
+        write!(f, "({}, {}, {})", self.x, self.y, self.z)
+    }
 }
 
 impl Sizes {

@@ -1,29 +1,21 @@
 //! What the types say of each other, on maps of every size class drawn at random from a fixed seed.
-#![allow(unknown_lints, unexpected_cfgs)]
+mod common;
+
+use common::Numbers;
 use dukthari::{Field, Map, Refusal, Sizes};
 
-/// A row of numbers that always is the same.
-struct Numbers(u64);
-
-impl Numbers {
-    fn below(&mut self, limit: u32) -> u32 {
-        self.0 = self.0.wrapping_mul(6_364_136_223_846_793_005).wrapping_add(1_442_695_040_888_963_407);
-        ((self.0 >> 33) % u64::from(limit)) as u32
-    }
-
-    fn map(&mut self) -> Map {
-        let largest = [3, 6, 16][self.below(3) as usize];
-        let sizes = Sizes { w: 2 + self.below(largest - 1), h: 2 + self.below(largest - 1), d: 1 + self.below(largest) };
-        let percent = self.below(60);
-        let cells = (0..sizes.nodes().unwrap()).map(|_| u8::from(self.below(100) < percent)).collect();
-        Map::new(sizes, cells).unwrap()
-    }
+fn drawn(numbers: &mut Numbers) -> Map {
+    let largest = [3, 6, 16][numbers.below(3) as usize];
+    let sizes = Sizes { w: 2 + numbers.below(largest - 1), h: 2 + numbers.below(largest - 1), d: 1 + numbers.below(largest) };
+    let percent = numbers.below(60);
+    let cells = (0..sizes.nodes().unwrap()).map(|_| u8::from(numbers.below(100) < percent)).collect();
+    Map::new(sizes, cells).unwrap()
 }
 
 fn on_maps(count: usize, mut check: impl FnMut(&mut Numbers, &Map)) {
-    let mut numbers = Numbers(20_261_115);
+    let mut numbers = Numbers::new();
     for _ in 0..count {
-        let map = numbers.map();
+        let map = drawn(&mut numbers);
         check(&mut numbers, &map);
     }
 }
@@ -102,6 +94,9 @@ fn what_is_reached_shows_the_verdict() {
     on_maps(1000, |numbers, map| {
         let nodes = map.cells().len() as u32;
         let (start, end) = (numbers.below(nodes), numbers.below(nodes));
+        if let Ok(reached) = map.reached(start, end) {
+            assert!(reached.iter().count() == reached.count() && reached.iter().all(|node| reached.has(node)));
+        }
         match (map.reached(start, end), map.verdict(start, end)) {
             (Ok(reached), Ok(_)) => assert!(reached.has(start) && reached.has(end)),
             (Ok(reached), Err(refusal)) => assert!(refusal == Refusal::NoPath && reached.has(start) && !reached.has(end)),

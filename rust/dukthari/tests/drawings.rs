@@ -1,4 +1,7 @@
 //! Drawings both ways, and every way in which a text is none.
+mod common;
+
+use common::Numbers;
 use dukthari::{BadDrawing, Flaw, Map, Sizes};
 
 fn flaw(text: &str) -> (usize, usize, Flaw) {
@@ -100,11 +103,8 @@ fn a_flaw_in_words() {
 /// Of any text at all: a map whose drawing gives it back, or a flaw that lies in the text or where its next line or character would stand.
 #[test]
 fn any_text_is_read_or_refused() {
-    let mut number = 20_261_115_u64;
-    let mut below = |limit: usize| {
-        number = number.wrapping_mul(6_364_136_223_846_793_005).wrapping_add(1_442_695_040_888_963_407);
-        (number >> 33) as usize % limit
-    };
+    let mut numbers = Numbers::new();
+    let mut below = |limit: usize| numbers.below(limit as u32) as usize;
     let (mut read, mut refused) = (0, 0);
     for _ in 0..20_000 {
         let (width, height, layers) = (1 + below(4), 1 + below(4), 1 + below(3));

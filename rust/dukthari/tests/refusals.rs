@@ -30,6 +30,10 @@ fn every_refusal_has_its_number_and_its_words() {
         let (text, begins) = (refusal.to_string(), format!("refused {}: {}", refusal.number(), refusal.reason()));
         assert!(text.starts_with(&begins) && refusal.reason().len() > 20, "{text}");
     }
+    let header = include_str!("../../../include/dukthari.h");
+    let reason = header.split("*dk_reason(").nth(1).unwrap().split("\n}").next().unwrap();
+    let words: Vec<&str> = reason.split('"').skip(1).step_by(2).collect();
+    assert_eq!(words[1..12], given.map(Refusal::reason));
     assert_eq!(given[3], Refusal::BadCell { node: 20 });
     assert!(given[3].to_string().ends_with("the first at node 20"));
 }

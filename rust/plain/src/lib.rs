@@ -1,5 +1,5 @@
 //! The calls of the library as one would write them in plain Rust, with speed in mind and with the same checks: the yardstick for
-//! `rust/measure`. Nothing here is proved; its tests hold it to the search program.
+//! `rust/measure`. Nothing here is proved; `rust/compare` holds it to the search program.
 
 mod components;
 mod field;
