@@ -8,3 +8,4 @@ pub mod Bits
 pub mod Fill
 pub mod Answers
 pub mod Granted
+pub mod Order

@@ -72,6 +72,19 @@ abbrev pub numbered : Answer → ℕ → Numbered
 numbered Done n = Number n
 numbered (Refused r) n = NotNumbered r
 
+-- the number and values of such an answer
+abbrev pub numberedNo : Numbered → ℕ
+numberedNo (Number n) = 0
+numberedNo (NotNumbered r) = refusalNo r
+
+abbrev pub numberedBad : Numbered → ℕ
+numberedBad (Number n) = 0
+numberedBad (NotNumbered r) = refusalBad r
+
+abbrev pub numberedValue : Numbered → ℕ
+numberedValue (Number n) = n
+numberedValue (NotNumbered r) = 0
+
 abbrev pub placed : Answer → Place → Placed
 placed Done p = Found p
 placed (Refused r) p = NotPlaced r

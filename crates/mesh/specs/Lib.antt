@@ -4,3 +4,4 @@ pub mod Steps
 pub mod Cells
 pub mod Fill
 pub mod Answers
+pub mod Order
