@@ -24,7 +24,7 @@ use Rattle.mesh.proofs.Fill.{front}
 use Rattle.mesh.proofs.Numbers.{nodes-le}
 use Rattle.mesh.proofs.Answers.{split, room-granted, map-granted}
 use Rattle.rules.proofs.Marks.{marks-length}
-use Rattle.marks.specs.Entry.{marksAnswer}
+use Rattle.rules.specs.Entry.{marksAnswer}
 use Rattle.touching.specs.Components.{tableOf, recordsOf, howMany}
 use Rattle.touching.specs.Entry.{componentsCheck, componentsAnswer, componentsTable, componentsRow, tableWritten, rowWritten}
 use Rattle.grids.specs.Grid.{gridSize, spot, gridAt}

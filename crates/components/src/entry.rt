@@ -16,7 +16,7 @@ ghost use lib.ListN.{length, getD};
 ghost use Rattle.mesh.specs.Mesh.{InRange};
 ghost use Rattle.mesh.specs.declared.Answer.the-variants.{Done};
 ghost use Rattle.mesh.specs.Answers.{answerValue};
-ghost use Rattle.marks.specs.Entry.{marksAnswer};
+ghost use Rattle.rules.specs.Entry.{marksAnswer};
 ghost use Rattle.grids.specs.Grid.{gridSize};
 ghost use Rattle.components.specs.Outcome.{Gridded, Answered, storedOf, Computed};
 

@@ -26,7 +26,7 @@ use Rattle.mesh.specs.declared.Stepped.the-variants.{Led}
 use Rattle.mesh.specs.declared.Answer.{Answer}
 use Rattle.mesh.specs.declared.Answer.the-variants.{Done, Refused}
 use Rattle.rules.specs.Marks.{marksOf}
-use Rattle.marks.specs.Entry.{marksAnswer}
+use Rattle.rules.specs.Entry.{marksAnswer}
 use Rattle.touching.specs.Components.{howMany}
 use Rattle.touching.specs.Entry.{componentsCheck, componentsAnswer}
 use Rattle.paths.specs.Differences.{hops}

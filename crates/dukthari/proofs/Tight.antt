@@ -15,7 +15,7 @@ use Rattle.mesh.specs.declared.Answer.{Answer}
 use Rattle.mesh.specs.declared.Answer.the-variants.{Done, Refused}
 use Rattle.mesh.specs.declared.Sizes.{Sizes}
 use Rattle.rules.specs.Marks.{marksOf}
-use Rattle.marks.specs.Entry.{marksAnswer, marksWritten, marksOut}
+use Rattle.rules.specs.Entry.{marksAnswer, marksWritten, marksOut}
 use Rattle.touching.specs.Components.{howMany}
 use Rattle.touching.specs.Entry.{componentsCheck, componentsAnswer, componentsTable, componentsRow, tableWritten, rowWritten}
 use Rattle.touching.specs.declared.Component.{Component}

@@ -22,7 +22,7 @@ ghost use mathlib.Core.Path.{_≡_};
 ghost use lib.ListN.{length};
 ghost use Rattle.mesh.specs.Mesh.{sizes, place};
 ghost use Rattle.mesh.specs.Answers.{numberAnswer, placeAnswer, stepAnswer};
-ghost use Rattle.marks.specs.Entry.{marksAnswer, marksOut};
+ghost use Rattle.rules.specs.Entry.{marksAnswer, marksOut};
 ghost use Rattle.touching.specs.Entry.{componentsAnswer, componentsTable, componentsRow};
 ghost use Rattle.paths.specs.Entries.{verdictAnswer, routeAnswer, routeOut, reachedAnswer, reachedOut};
 ghost use Rattle.answers.specs.Fields.{nodeFields, placeFields, stepFields, doneFields, countedFields, verdictFields};

@@ -1,5 +1,2 @@
 pub mod Clear
-pub mod Answer
 pub mod Written
-pub mod Promise
-pub mod Impostors

@@ -4,41 +4,22 @@ use mathlib.Core.Bool.{Bool, true, false, cond, _||_}
 use mathlib.Core.List.{List}
 use Prim.Native.Nat.{ℕ, _+_, _*_, _<_, _≤_}
 use native.Mathlib.Omega.{arith}
-use lib.ListN.{length, getD, drop, List·getD-append}
+use lib.ListN.{length, getD}
 use Rattle.mesh.specs.Tools.{bit}
 use Rattle.mesh.specs.Mesh.{nodes, number, placeOf, Inside}
 use Rattle.mesh.specs.Steps.{reversed}
 use Rattle.mesh.specs.Cells.{Map, mapOf, faulty, faultyCell}
 use Rattle.rules.specs.Marks.{toGo, shut, stuck, byteOf, markAt, marksOf}
 use Rattle.mesh.proofs.Bits.{bit-le}
-use Rattle.mesh.proofs.Fill.{front-kept, front-size, front}
-use Rattle.mesh.proofs.Numbers.{digit-lt, number-of, number-lt, place-in}
+use Rattle.mesh.proofs.Fill.{front}
+use Rattle.mesh.proofs.Numbers.{digit-lt, number-of, place-in}
 use Rattle.rules.proofs.Left.{to-go-in, to-go-back}
 use Rattle.rules.proofs.Marks.{marks-length, marks-at}
 use Rattle.mesh.specs.declared.Sizes.{Sizes}
 use Rattle.mesh.specs.declared.Place.{Place}
-use Rattle.marks.specs.Entry.{marksWritten}
+use Rattle.rules.specs.Entry.{marksWritten}
 use Rattle.layers.specs.Sweep.{Right, Stretch, Room}
 use Rattle.layers.specs.Join.{markOf, markFrom, Bits, MarksMade}
-
--- ---- what is to be written
-
-module _ (S : Sizes) (cells : List ℕ) (o : ℕ) (old : List ℕ) where
-  pub written-at : (p : Place) → Inside S p → getD (marksWritten S cells o old) (number S p) 0 ≡ markAt (mapOf S cells) o p
-  unfolding marksWritten
-  written-at p i =
-      List·getD-append (marksOf (mapOf S cells) o) (drop (nodes S) old) 0 (number S p) (rw (marks-length (mapOf S cells) o) (number-lt S p i))
-      ∙ marks-at (mapOf S cells) o p i
-
-  pub written-kept : (k : ℕ) → nodes S ≤ k → getD (marksWritten S cells o old) k 0 ≡ getD old k 0
-  unfolding marksWritten
-  written-kept = front-kept (marksOf (mapOf S cells) o) old (nodes S) (marks-length (mapOf S cells) o)
-
-  pub written-size : nodes S ≤ length old → length (marksWritten S cells o old) ≡ length old
-  unfolding marksWritten
-  written-size = front-size (marksOf (mapOf S cells) o) old (nodes S) (marks-length (mapOf S cells) o)
-
--- ---- what is written
 
 -- a whole sweep has each node's byte at its number
 module _ (m : Map) (o : ℕ) (old new : List ℕ) (W : Stretch m o (m .sizes .h * m .sizes .d) old new) where

@@ -1,3 +1,1 @@
-pub mod Entry
 pub mod Clear
-pub mod Promise

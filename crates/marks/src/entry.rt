@@ -9,7 +9,7 @@ use mesh::Sizes;
 ghost use mathlib.Core.Path.{_≡_};
 ghost use Prim.Native.Nat.{_≤_};
 ghost use lib.ListN.{length};
-ghost use Rattle.marks.specs.Entry.{marksAnswer, marksWritten, marksOut};
+ghost use Rattle.rules.specs.Entry.{marksAnswer, marksWritten, marksOut};
 ghost use Rattle.layers.specs.Sweep.{Room};
 
 // Refusals 1, 2, 4, 5 and 3.

@@ -9,3 +9,5 @@ pub mod Fill
 pub mod Answers
 pub mod Granted
 pub mod Order
+pub mod Promise
+pub mod Impostors

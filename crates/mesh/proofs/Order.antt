@@ -3,15 +3,17 @@ use mathlib.Core.Path.{_≡_, refl, sym, _∙_, subst}
 use mathlib.Core.Logic.{_↔_, _≢_, _⊎_, inl, inr}
 use mathlib.Core.Bool.{Bool, true, false, not, cond, _&&_, _||_}
 use mathlib.Core.List.{List, [], _∷_, _++_}
-use Prim.Native.Nat.{ℕ, _≤_, _<_}
+use Prim.Native.Nat.{ℕ, suc, _≤_, _<_}
+use native.Mathlib.Nat.{lt-of-not-le}
+use native.Mathlib.Decide.{ℕ-discrete}
 use native.Mathlib.Omega.{arith}
-use borrow.Author.Tests.{ltb-true, ltb-false, le-ltb}
+use borrow.Author.Tests.{ltb-true, ltb-false}
 use lib.Dec.{T, eqb, leb, ltb}
 use lib.ListN.{length, getD}
 use Rattle.mesh.specs.Mesh.{inRange, InRange, nodes}
 use Rattle.mesh.specs.Cells.{badCell, firstBad}
 use Rattle.mesh.specs.Answers.{refusalNo, refusalBad, answerNo, answerBad, answerValue, numbered, numberedNo, numberedBad, numberedValue, _andThen_, unless, checkSizes, checkCells, checkMap, checkNode, checkOrientation, checkRoom}
-use Rattle.mesh.specs.Order.{Check, _else_, _give_, AllPass, NoneBad, FirstBad, InOrder, mapChecks, NamesBad}
+use Rattle.mesh.specs.Order.{Check, _else_, _give_, AllPass, NoneBad, FirstBad, mapChecks, NamesBad}
 use Rattle.mesh.specs.declared.Sizes.{Sizes}
 use Rattle.mesh.specs.declared.Refusal.{Refusal}
 use Rattle.mesh.specs.declared.Refusal.the-variants.{BadSizes, BadLength, NoRoom, BadCell, BadNumber, Unsound, NoPair, NotHeld, FaultyEnd, NoPath, BadFile}
@@ -99,6 +101,12 @@ pub gives : (cs : List Check) (a : Answer) → cs decide a → cs give answerNo 
 gives [] a d = rw d
 gives (c ∷ cs) a (inl d) = let (r, e, n) = d .1 in inl (d .0, rw e n)
 gives (c ∷ cs) a (inr d) = inr (d .0, gives cs a (d .1))
+
+-- done, all have passed
+pub all-passed : (cs : List Check) (a : Answer) → cs decide a → a ≡ Done → AllPass cs
+all-passed [] a d e = tt
+all-passed (c ∷ cs) a (inl d) e = let (r, f, n) = d .1 in let z : _≡_ {A = ℕ} 0 1 = cc in absurd (omega arith)
+all-passed (c ∷ cs) a (inr d) e = (d .0, all-passed cs a (d .1) e)
 
 -- one after another
 pub decides-then : (cs ds : List Check) (a b : Answer) → cs decide a → ds decide b → cs ++ ds decide (a andThen b)
@@ -189,6 +197,16 @@ module _ (S : Sizes) (cells : List ℕ) where
       bad-then (checkSizes S andThen unless same BadLength) (checkCells S cells)
       (bad-then (checkSizes S) (unless same BadLength) (bad-unless (inRange S) BadSizes (λ z. omega arith) refl) (bad-unless same BadLength (λ z. omega arith) refl))
       bad-cells
+
+  -- there is one first bad cell, so there is one that an answer names
+  first-one : (j k : ℕ) → FirstBad S cells j → FirstBad S cells k → j ≡ k
+  first-one j k f g =
+      let h : k < suc j = lt-of-not-le (λ l. T-no (badCell S j (getD cells j 0)) .0 (g .none-before j l) (f .bad)) in
+      let i : j < suc k = lt-of-not-le (λ l. T-no (badCell S k (getD cells k 0)) .0 (f .none-before k l) (g .bad)) in
+      omega arith
+
+  pub bad-one : (n j k : ℕ) → NamesBad S cells n j → NamesBad S cells n k → j ≡ k
+  bad-one n j k f g = elim (ℕ-discrete n 4) [ yes e ↦ first-one j k (f .0 e) (g .0 e) | no e ↦ f .1 e ∙ sym (g .1 e) ]
 
 -- ---- answers and their numbers
 

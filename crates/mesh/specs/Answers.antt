@@ -4,12 +4,13 @@ use mathlib.Core.List.{List}
 use Prim.Native.Nat.{ℕ}
 use lib.ListN.{length}
 use lib.Dec.{ltb, leb, eqb}
-use Rattle.mesh.specs.Mesh.{inRange, nodes, inside, number, placeOf}
+use Rattle.mesh.specs.Mesh.{inRange, nodes, inside, number, place, placeOf}
 use Rattle.mesh.specs.Steps.{next}
 use Rattle.mesh.specs.Cells.{badCell, firstBad}
 use Rattle.mesh.specs.declared.Sizes.{Sizes}
 use Rattle.mesh.specs.declared.Place.{Place}
 use Rattle.mesh.specs.declared.Next.{Next}
+use Rattle.mesh.specs.declared.Next.the-variants.{At, Edge}
 use Rattle.mesh.specs.declared.Refusal.{Refusal}
 use Rattle.mesh.specs.declared.Refusal.the-variants.{BadSizes, BadLength, NoRoom, BadCell, BadNumber, Unsound, NoPair, NotHeld, FaultyEnd, NoPath, BadFile}
 use Rattle.mesh.specs.declared.Answer.{Answer}
@@ -89,9 +90,32 @@ abbrev pub placed : Answer → Place → Placed
 placed Done p = Found p
 placed (Refused r) p = NotPlaced r
 
+abbrev pub placedNo : Placed → ℕ
+placedNo (Found p) = 0
+placedNo (NotPlaced r) = refusalNo r
+
+abbrev pub placedAt : Placed → Place
+placedAt (Found p) = p
+placedAt (NotPlaced r) = place 0 0 0
+
 abbrev pub stepped : Answer → Next → Stepped
 stepped Done q = Led q
 stepped (Refused r) q = NotStepped r
+
+abbrev pub steppedNo : Stepped → ℕ
+steppedNo (Led q) = 0
+steppedNo (NotStepped r) = refusalNo r
+
+-- "the next place, or says that the mesh ends there": 1 or 0
+abbrev pub steppedThere : Stepped → ℕ
+steppedThere (Led (At q)) = 1
+steppedThere (Led Edge) = 0
+steppedThere (NotStepped r) = 0
+
+abbrev pub steppedAt : Stepped → Place
+steppedAt (Led (At q)) = q
+steppedAt (Led Edge) = place 0 0 0
+steppedAt (NotStepped r) = place 0 0 0
 
 infixl 20 _andThen_
 -- "Checks run in the order": the first refusal stands

@@ -5,3 +5,4 @@ pub mod Cells
 pub mod Fill
 pub mod Answers
 pub mod Order
+pub mod Promise

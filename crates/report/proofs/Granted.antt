@@ -15,7 +15,7 @@ use Rattle.mesh.proofs.Numbers.{nodes-le}
 use Rattle.mesh.proofs.Answers.{map-granted}
 use Rattle.rules.specs.Marks.{marksOf}
 use Rattle.rules.proofs.Marks.{marks-length}
-use Rattle.marks.specs.Entry.{marksAnswer, marksWritten, marksOut}
+use Rattle.rules.specs.Entry.{marksAnswer, marksWritten, marksOut}
 use Rattle.touching.specs.Components.{howMany}
 use Rattle.touching.specs.Entry.{componentsCheck}
 use Rattle.touching.proofs.Numbers.{how-many-le}

@@ -4,3 +4,6 @@ pub mod Stuck
 pub mod Marks
 pub mod Bytes
 pub mod ByteRule
+pub mod Entry
+pub mod Promise
+pub mod Impostors

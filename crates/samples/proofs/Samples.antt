@@ -2,7 +2,7 @@
 use mathlib.Core.Path.{_≡_, refl}
 use mathlib.Core.List.{map}
 use Rattle.rules.specs.Marks.{marked, stuckWithin, stuck, markAt, marksOf}
-use Rattle.marks.specs.Entry.{marksAnswer, marksWritten}
+use Rattle.rules.specs.Entry.{marksAnswer, marksWritten}
 use Rattle.touching.specs.Lists.{anyOf, keep, least, greatest}
 use Rattle.touching.specs.Touch.{unsafeNodes, touch, grown, component}
 use Rattle.touching.specs.Components.{lowest, lowestNodes, numberAmong, tableOf, recordOf, recordsOf, howMany}

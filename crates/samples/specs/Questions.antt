@@ -7,7 +7,7 @@ use Rattle.mesh.specs.Cells.{Map, stateLength}
 use Rattle.mesh.specs.Answers.{answerNo, refusalNo}
 use Rattle.mesh.specs.declared.Numbered.{Numbered}
 use Rattle.mesh.specs.declared.Numbered.the-variants.{Number, NotNumbered}
-use Rattle.marks.specs.Entry.{marksAnswer, marksOut}
+use Rattle.rules.specs.Entry.{marksAnswer, marksOut}
 use Rattle.touching.specs.Entry.{componentsAnswer, componentsRow}
 use Rattle.touching.specs.declared.Component.{Component}
 use Rattle.paths.specs.Entries.{verdictAnswer, verdictNo, verdictHops, verdictOffered, routeAnswer, routeOut}

@@ -11,8 +11,8 @@ use Rattle.rules.specs.Marks.{marksOf}
 use Rattle.mesh.specs.declared.Sizes.{Sizes}
 use Rattle.mesh.specs.declared.Answer.the-variants.{Done}
 use Rattle.rules.proofs.Marks.{marks-length}
-use Rattle.marks.specs.Entry.{marksAnswer, marksWritten, marksOut}
-use Rattle.marks.proofs.Answer.{Granted, marks-granted}
+use Rattle.rules.specs.Entry.{marksAnswer, marksWritten, marksOut}
+use Rattle.rules.proofs.Entry.{Granted, marks-granted}
 use Rattle.grids.specs.Grid.{gridAt}
 use borrow.Author.Needs.{needs}
 use Rattle.components.proofs.entry.grid_of.Statement.{statement}

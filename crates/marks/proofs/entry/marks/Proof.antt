@@ -5,8 +5,8 @@ use denote.Ref.{now}
 use lib.ListN.{length}
 use Rattle.mesh.specs.declared.Answer.the-variants.{Done}
 use Rattle.mesh.proofs.Answers.{kept}
-use Rattle.marks.specs.Entry.{marksAnswer, marksWritten}
-use Rattle.marks.proofs.Answer.{marks-granted}
+use Rattle.rules.specs.Entry.{marksAnswer, marksWritten}
+use Rattle.rules.proofs.Entry.{marks-granted}
 use Rattle.marks.proofs.entry.marks.Statement.{statement}
 use Rattle.marks.proofs.entry.marks.Tie as tie
 

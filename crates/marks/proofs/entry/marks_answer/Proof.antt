@@ -7,7 +7,7 @@ use denote.Ref.{now}
 use Rattle.mesh.specs.Answers.{checkMap}
 use Rattle.mesh.specs.declared.Answer.the-variants.{Done}
 use Rattle.mesh.proofs.Answers.{map-granted}
-use Rattle.marks.proofs.Answer.{marks-map, marks-5, marks-3, marks-0}
+use Rattle.rules.proofs.Entry.{marks-map, marks-5, marks-3, marks-0}
 use Rattle.marks.proofs.entry.marks_answer.Statement.{statement}
 use Rattle.marks.proofs.entry.marks_answer.Tie as tie
 

@@ -1,23 +1,17 @@
--- What is promised of the marks: demand 2, in 01's words. Assumes nothing.
+-- What is promised of the marks: demand 2, in 01's words, and of the call's numbers. Assumes nothing.
 use mathlib.Core.Bool.{Bool}
-use mathlib.Core.List.{List}
-use mathlib.Core.Logic.{_↔_}
+use mathlib.Core.List.{List, [], _∷_, _++_}
+use mathlib.Core.Logic.{_↔_, _≢_}
 use mathlib.Core.Path.{_≡_}
 use Prim.Native.Nat.{ℕ, _≤_}
 use lib.Dec.{T}
 use lib.ListN.{length, getD}
 use Rattle.mesh.specs.Mesh.{nodes, number, Inside}
 use Rattle.mesh.specs.Cells.{mapOf, faulty, works}
+use Rattle.mesh.specs.Order.{Check, _else_, _give_, mapChecks, NamesBad}
 use Rattle.rules.specs.Marks.{Kind, Rules, Closed, byteOf, has}
 use Rattle.mesh.specs.declared.Sizes.{Sizes}
 use Rattle.mesh.specs.declared.Place.{Place}
-use Rattle.mesh.specs.declared.Answer.{Answer}
-use Rattle.marks.specs.Entry.{marksAnswer, marksOut}
-
--- an outcome that the contract of `marks` allows: the answer, and the lent bytes as the call returns
-pub record Allowed (S : Sizes) (cells : List ℕ) (o : ℕ) (out : List ℕ) (answer : Answer) (new : List ℕ) : Type 0 where
-  pub answered : answer ≡ marksAnswer S cells o (length out)
-  pub left : new ≡ marksOut S cells o out
 
 -- the marks that bytes hold
 abbrev pub marksIn : Sizes → List ℕ → Kind → Place → Bool
@@ -38,3 +32,16 @@ pub record Marked (S : Sizes) (cells : List ℕ) (o : ℕ) (old new : List ℕ) 
   -- "longer outputs keep their remaining places"
   pub kept : (k : ℕ) → nodes S ≤ k → getD new k 0 ≡ getD old k 0
   pub size : length new ≡ length old
+
+-- the checks of the call, with so much room: a map (1, 2, 4), an orientation (5), room (3)
+abbrev pub marksChecks : Sizes → List ℕ → ℕ → ℕ → List Check
+marksChecks S cells o room = mapChecks S cells ++ (o ≤ 7) else 5 ∷ (nodes S ≤ room) else 3 ∷ []
+
+-- The call for the marks, in its numbers: the bytes `old` are lent, and are `new` when it returns.
+pub record MarksPromise (S : Sizes) (cells : List ℕ) (o : ℕ) (old : List ℕ) (refusal bad : ℕ) (new : List ℕ) : Type 0 where
+  -- refused by the first of 1, 2, 4, 5 and 3 whose cause there is, and granted exactly if there is none;
+  pub order : marksChecks S cells o (length old) give refusal
+  pub names-bad : NamesBad S cells refusal bad
+  -- then the marks stand in front; and "No lent byte changes" on a refusal.
+  pub marked : refusal ≡ 0 → Marked S cells o old new
+  pub nothing : refusal ≢ 0 → new ≡ old
