@@ -5,7 +5,6 @@ pub mod Offered
 pub mod Reached
 pub mod Direct
 pub mod Verdicts
-pub mod Refusals
 pub mod Promise
 pub mod Computed
 pub mod Cases

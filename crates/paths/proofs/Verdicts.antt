@@ -1,244 +1,156 @@
--- What the checks of a route decide, in the promise's words: passed exactly if the question is in order, both ends work and a path joins
--- them; refused by 10 exactly if only the path is missing. No earlier check refuses by so high a number, and none by 3, so a refusal by 9,
--- by 10 or by 3 tells that all before it have passed. Assumes nothing.
-use mathlib.Core.Path.{_≡_, refl, sym, _∙_}
-use mathlib.Core.Logic.{_↔_}
-use mathlib.Core.Bool.{Bool, true, false, cond, not}
-use mathlib.Core.List.{List}
-use Prim.Native.Nat.{ℕ, _<_}
+-- What the checks of a route decide, in the promise's words: a list of checks decides each call's answer; all of them pass exactly if the question
+-- is in order, both ends work and, for a route, a path joins them; and the answer names the bad cell of the map. Assumes nothing.
+use mathlib.Core.Path.{_≡_, refl}
+use mathlib.Core.Logic.{_↔_, _≢_, inl, inr}
+use mathlib.Core.Bool.{Bool, true, false}
+use mathlib.Core.List.{List, [], _∷_, _++_}
+use Prim.Native.Nat.{ℕ, _+_, _<_, _≤_}
 use native.Mathlib.Omega.{arith}
-use lib.ListN.{length, getD}
-use lib.Dec.{T, eqb, leb, ltb}
-use borrow.Author.Tests.{lt-ltb, lt-leb, ltb-true, leb-false, eqb-true, eqb-false, not-true}
-use Rattle.mesh.specs.Mesh.{inRange, InRange, nodes, placeOf}
-use Rattle.mesh.specs.Cells.{Map, mapOf, cellAt, badCell, firstBad, mayEnd}
-use Rattle.mesh.specs.Answers.{answerNo, refusalNo, _andThen_, unless, checkSizes, checkMap, checkNode, checkRoom}
-use Rattle.mesh.proofs.Tests.{T-lt, holds-true, bool-ext}
-use Rattle.mesh.proofs.Answers.{split, stands, ok-of, sizes-of, sizes-is, node-granted, map-granted, map-in-order}
-use Rattle.mesh.proofs.Answers.{first-at, first-below, map-0, map-1, map-2, map-4}
+use lib.Dec.{T, leb, ltb}
+use Rattle.mesh.specs.Mesh.{nodes, placeOf}
+use Rattle.mesh.specs.Cells.{Map, mapOf, cellAt, mayEnd}
+use Rattle.mesh.specs.Answers.{refusalNo, refusalBad, answerNo, answerBad, _andThen_, unless, checkMap, checkNode, checkRoom}
+use Rattle.mesh.specs.Order.{Check, _else_, AllPass, mapChecks, NamesBad}
+use Rattle.mesh.proofs.Tests.{T-lt}
 use Rattle.mesh.proofs.Numbers.{place-in}
+use Rattle.mesh.proofs.Order.{_decide_, decides-then, decides-by, room-decided, map-decided, bad-then, bad-unless, bad-map}
 use Rattle.mesh.specs.declared.Sizes.{Sizes}
+use Rattle.mesh.specs.declared.Place.{Place}
 use Rattle.mesh.specs.declared.Refusal.{Refusal}
-use Rattle.mesh.specs.declared.Refusal.the-variants.{BadSizes, BadLength, NoRoom, BadCell, BadNumber, FaultyEnd, NoPath}
+use Rattle.mesh.specs.declared.Refusal.the-variants.{NoRoom, BadNumber, FaultyEnd, NoPath}
 use Rattle.mesh.specs.declared.Answer.{Answer}
 use Rattle.mesh.specs.declared.Answer.the-variants.{Done, Refused}
+use Rattle.paths.specs.Differences.{hops}
 use Rattle.paths.specs.Paths.{leads}
-use Rattle.paths.specs.Entries.{checkEnds, verdictCheck}
-use Rattle.paths.specs.Promise.{GoodBelow, InOrder, OutOfOrder, by-sizes, by-length, by-cell, by-number, BothWork, Joined}
+use Rattle.paths.specs.Entries.{checkEnd, checkEnds, checkPath, verdictCheck, routeLength, routeCheck, reachedCheck}
+use Rattle.paths.specs.Promise.{Asked, BothWork, Joined, endChecks, pathChecks}
 use Rattle.paths.proofs.Paths.{path-iff}
 
--- ---- which numbers the checks answer: P holds of each
+-- ---- checks in general
 
-no-then : (P : ℕ → Type 0) (a b : Answer) → P (answerNo a) → P (answerNo b) → P (answerNo (a andThen b))
-no-then P Done b h k = k
-no-then P (Refused r) b h k = h
+-- what comes after may rest on what has passed
+decides-after : (cs ds : List Check) (a b : Answer) → cs decide a → (AllPass cs → ds decide b) → cs ++ ds decide (a andThen b)
+decides-after [] ds a b d e = rw d (e tt)
+decides-after (c ∷ cs) ds a b (inl d) e = let (r, f, n) = d .1 in inl (d .0, (r, rw f, n))
+decides-after (c ∷ cs) ds a b (inr d) e = inr (d .0, decides-after cs ds a b (d .1) (λ p. e (d .0, p)))
 
-no-unless : (P : ℕ → Type 0) (t : Bool) (r : Refusal) → P 0 → P (refusalNo r) → P (answerNo (unless t r))
-no-unless P true r o h = o
-no-unless P false r o h = h
+-- two tests of one number are one check of both
+decides-both : (cs : List Check) (a : Answer) (t u : Bool) (r : Refusal) {P Q : Type 0} → cs decide a → T t ↔ P → T u ↔ Q
+    → cs ++ (P × Q) else refusalNo r ∷ [] decide (a andThen unless t r andThen unless u r)
+decides-both cs a t u r {P} {Q} d p q = rw (then-then a) (decides-then cs ((P × Q) else refusalNo r ∷ []) a (unless t r andThen unless u r) d (two t u p q))
+  where
+    then-then : (a : Answer) → a andThen unless t r andThen unless u r ≡ a andThen (unless t r andThen unless u r)
+    then-then Done = refl
+    then-then (Refused r) = refl
 
-no-cell : (P : ℕ → Type 0) (t : Bool) (k : ℕ) → P 0 → P 4 → P (answerNo (cond t (Refused (BadCell k)) Done))
-no-cell P true k o h = h
-no-cell P false k o h = o
+    two : (t u : Bool) → T t ↔ P → T u ↔ Q → (P × Q) else refusalNo r ∷ [] decide (unless t r andThen unless u r)
+    two true true p q = inr ((p .0 tt, q .0 tt), refl)
+    two true false p q = inl (λ w. q .1 (w .1), (r, refl, refl))
+    two false u p q = inl (λ w. p .1 (w .0), (r, refl, refl))
 
--- a refusal of a higher number than the first check's is the second's
-pub past : (a b : Answer) (r : Refusal) → answerNo a < refusalNo r → a andThen b ≡ Refused r → (a ≡ Done) × (b ≡ Refused r)
-past Done b r h e = (refl, e)
-past (Refused q) b r h e = let z : q ≡ r = cc in absurd (omega (arith, rw z at h))
-
-test-failed : (t : Bool) (q r : Refusal) → unless t q ≡ Refused r → t ≡ false
-test-failed true q r e = let z : _≡_ {A = ℕ} 0 1 = cc in absurd (omega arith)
-test-failed false q r e = refl
-
--- where no check before it refuses by 3, the check of the room does
-short : (a : Answer) (need room : ℕ) → T (not (eqb (answerNo a) 3)) → (a andThen checkRoom need room ≡ Refused NoRoom) ↔ ((a ≡ Done) × (room < need))
-short Done need room n = (λ h. (refl, leb-false need room (test-failed (leb need room) NoRoom NoRoom h)), λ w. rw (lt-leb need room (w .1)))
-short (Refused q) need room n = (
-  λ h. let z : q ≡ NoRoom = cc in absurd (rw z at n),
-  λ w. let (d, _) = w in let z : _≡_ {A = ℕ} 0 1 = cc in absurd (omega arith),
-)
-
--- either of two
-one-fails : (a b : Bool) (r : Refusal) → unless a r andThen unless b r ≡ Refused r → T a × T b → ⊥
-one-fails true true r e t = let z : _≡_ {A = ℕ} 0 1 = cc in omega arith
-one-fails true false r e t = t .1
-one-fails false b r e t = t .0
-
-fails-one : (a b : Bool) (r : Refusal) → (T a × T b → ⊥) → unless a r andThen unless b r ≡ Refused r
-fails-one true true r n = absurd (n (tt, tt))
-fails-one true false r n = refl
-fails-one false b r n = refl
-
-then-then : (a b c : Answer) → a andThen b andThen c ≡ a andThen (b andThen c)
-then-then Done b c = refl
-then-then (Refused r) b c = refl
+-- all pass: those before, and the last
+last-passes : (cs : List Check) (P : Type 0) (k : ℕ) → AllPass (cs ++ P else k ∷ []) ↔ (AllPass cs × P)
+last-passes [] P k = (λ w. (tt, w .0), λ w. (w .1, tt))
+last-passes (c ∷ cs) P k =
+    let (f, g) = last-passes cs P k in
+    (λ w. let (a, p) = f (w .1) in ((w .0, a), p), λ w. (w .0 .0, g (w .0 .1, w .1)))
 
 module _ (S : Sizes) (cells : List ℕ) (s e : ℕ) where
   abbrev m : Map
   m = mapOf S cells
 
-  -- the checks of the question, and of its ends
-  abbrev pub asked : Answer
-  asked = checkMap S cells andThen checkNode S s andThen checkNode S e
+  abbrev from : Place
+  from = placeOf S s
 
-  abbrev end-checks : Answer
-  end-checks = unless (mayEnd (cellAt m (placeOf S s))) FaultyEnd andThen unless (mayEnd (cellAt m (placeOf S e))) FaultyEnd
+  abbrev to : Place
+  to = placeOf S e
 
-  ends-are : checkEnds S cells s e ≡ asked andThen end-checks
+  -- the checks of a route, and those of what is reached
+  abbrev pub routeChecks : ℕ → List Check
+  routeChecks room = pathChecks S cells s e ++ (hops from to + 1 ≤ room) else 3 ∷ []
+
+  abbrev pub reachedChecks : ℕ → List Check
+  reachedChecks room = endChecks S cells s e ++ (nodes S ≤ room) else 3 ∷ []
+
+  -- ---- all pass
+
+  pub ends-pass : AllPass (endChecks S cells s e) ↔ (Asked S cells s e × BothWork S cells s e)
+  ends-pass = (
+    λ p. let (r, (w, (g, (k, (b, _))))) = p in (record { map = record { sized = r; whole = w; good = g }; start-in = k .0; end-in = k .1 }, b),
+    λ w. let (q, b) = w in (q .map .sized, (q .map .whole, (q .map .good, ((q .start-in, q .end-in), (b, tt))))),
+  )
+
+  pub path-passes : AllPass (pathChecks S cells s e) ↔ (Asked S cells s e × Joined S cells s e)
+  path-passes =
+      let (f, g) = last-passes (endChecks S cells s e) (Joined S cells s e) 10 in
+      (λ p. let (a, j) = f p in (ends-pass .0 a .0, j), λ w. let (q, j) = w in g (ends-pass .1 (q, (j .1 .start-may, j .1 .end-may)), j))
+
+  pub route-passes : (room : ℕ) → AllPass (routeChecks room) ↔ (Asked S cells s e × Joined S cells s e × (hops from to + 1 ≤ room))
+  route-passes room =
+      let (f, g) = last-passes (pathChecks S cells s e) (hops from to + 1 ≤ room) 3 in
+      (λ p. let (a, r) = f p in let (q, j) = path-passes .0 a in (q, j, r), λ w. let (q, j, r) = w in g (path-passes .1 (q, j), r))
+
+  pub reached-passes : (room : ℕ) → AllPass (reachedChecks room) ↔ (Asked S cells s e × BothWork S cells s e × (nodes S ≤ room))
+  reached-passes room =
+      let (f, g) = last-passes (endChecks S cells s e) (nodes S ≤ room) 3 in
+      (λ p. let (a, r) = f p in let (q, b) = ends-pass .0 a in (q, b, r), λ w. let (q, b, r) = w in g (ends-pass .1 (q, b), r))
+
+  -- ---- what each list decides
+
+  pub ends-decided : endChecks S cells s e decide checkEnds S cells s e
   unfolding checkEnds
-  ends-are = then-then asked (unless (mayEnd (cellAt m (placeOf S s))) FaultyEnd) (unless (mayEnd (cellAt m (placeOf S e))) FaultyEnd)
+  ends-decided =
+      let two : Check = ((s < nodes S) × (e < nodes S)) else 5 in
+      decides-both (mapChecks S cells ++ two ∷ []) (checkMap S cells andThen checkNode S s andThen checkNode S e) (mayEnd (cellAt m from)) (mayEnd (cellAt m to)) FaultyEnd
+      (decides-both (mapChecks S cells) (checkMap S cells) (ltb s (nodes S)) (ltb e (nodes S)) BadNumber (map-decided S cells) (T-lt s (nodes S)) (T-lt e (nodes S)))
+      (λ t. t, λ t. t)
+      (λ t. t, λ t. t)
 
-  asked-no : (P : ℕ → Type 0) → P 0 → P 1 → P 2 → P 4 → P 5 → P (answerNo asked)
-  unfolding checkMap
-  asked-no P p0 p1 p2 p4 p5 =
-      let k = firstBad (badCell S) cells in
-      let c0 = checkSizes S andThen unless (eqb (length cells) (nodes S)) BadLength in
-      no-then P (checkMap S cells andThen checkNode S s) (checkNode S e)
-      (no-then P (checkMap S cells) (checkNode S s)
-      (no-then P c0 (cond (ltb k (length cells)) (Refused (BadCell k)) Done)
-      (no-then P (checkSizes S) (unless (eqb (length cells) (nodes S)) BadLength) (no-unless P (inRange S) BadSizes p0 p1) (no-unless P (eqb (length cells) (nodes S)) BadLength p0 p2))
-      (no-cell P (ltb k (length cells)) k p0 p4))
-      (no-unless P (ltb s (nodes S)) BadNumber p0 p5))
-      (no-unless P (ltb e (nodes S)) BadNumber p0 p5)
-
-  ends-no : (P : ℕ → Type 0) → P 0 → P 1 → P 2 → P 4 → P 5 → P 9 → P (answerNo (checkEnds S cells s e))
-  ends-no P p0 p1 p2 p4 p5 p9 =
-      let a = mayEnd (cellAt m (placeOf S s)) in
-      let b = mayEnd (cellAt m (placeOf S e)) in
-      rw ends-are (no-then P asked end-checks (asked-no P p0 p1 p2 p4 p5)
-      (no-then P (unless a FaultyEnd) (unless b FaultyEnd) (no-unless P a FaultyEnd p0 p9) (no-unless P b FaultyEnd p0 p9)))
-
-  verdict-no : (P : ℕ → Type 0) → P 0 → P 1 → P 2 → P 4 → P 5 → P 9 → P 10 → P (answerNo (verdictCheck S cells s e))
+  pub verdict-decided : pathChecks S cells s e decide verdictCheck S cells s e
   unfolding verdictCheck
-  verdict-no P p0 p1 p2 p4 p5 p9 p10 =
-      let t = leads m (placeOf S e) (placeOf S s) (placeOf S e) in
-      no-then P (checkEnds S cells s e) (unless t NoPath) (ends-no P p0 p1 p2 p4 p5 p9) (no-unless P t NoPath p0 p10)
+  verdict-decided = decides-after (endChecks S cells s e) (Joined S cells s e else 10 ∷ []) (checkEnds S cells s e) (checkPath m from to) ends-decided λ p.
+      let (q, (a, b)) = ends-pass .0 p in
+      let joins = path-iff m from to (place-in S s (q .start-in)) in
+      decides-by (leads m to from to) NoPath (λ t. joins .1 (a, b, t), λ j. joins .0 j .2)
 
-  pub in-order : (asked ≡ Done) ↔ InOrder S cells s e
-  in-order = (
-    λ h.
-        let (g, k) = split (checkMap S cells andThen checkNode S s) (checkNode S e) h in
-        let (f, l) = split (checkMap S cells) (checkNode S s) g in
-        let c = map-granted S cells f in
-        record {
-          sized = c .sized;
-          whole = c .whole;
-          good = λ i d. rw (c .good i (omega (arith, c .whole))) tt;
-          start-in = node-granted S s l;
-          end-in = node-granted S e k;
-        },
-    λ q.
-        let good : (i : ℕ) → i < length cells → badCell S i (getD cells i 0) ≡ false = λ i d.
-        not-true (badCell S i (getD cells i 0)) (holds-true (not (badCell S i (getD cells i 0))) .0 (q .good i (omega (arith, q .whole)))) in
-        rw (
-          map-in-order S cells (record { sized = q .sized; whole = q .whole; good = good }),
-          lt-ltb s (nodes S) (q .start-in),
-          lt-ltb e (nodes S) (q .end-in),
-        ),
-  )
+  pub route-decided : (room : ℕ) → routeChecks room decide routeCheck S cells s e room
+  unfolding routeCheck
+  route-decided room = decides-then (pathChecks S cells s e) ((hops from to + 1 ≤ room) else 3 ∷ []) (verdictCheck S cells s e) (checkRoom (routeLength S s e) room)
+      verdict-decided (room-decided (routeLength S s e) room)
 
-  -- ---- the ends
+  pub reached-decided : (room : ℕ) → reachedChecks room decide reachedCheck S cells s e room
+  unfolding reachedCheck
+  reached-decided room = decides-then (endChecks S cells s e) ((nodes S ≤ room) else 3 ∷ []) (checkEnds S cells s e) (checkRoom (nodes S) room)
+      ends-decided (room-decided (nodes S) room)
 
-  pub ends-iff : (checkEnds S cells s e ≡ Done) ↔ (InOrder S cells s e × BothWork S cells s e)
-  ends-iff = (
-    λ h.
-        let (q, w) = split asked end-checks (sym ends-are ∙ h) in
-        let (a, b) = split (unless (mayEnd (cellAt m (placeOf S s))) FaultyEnd) (unless (mayEnd (cellAt m (placeOf S e))) FaultyEnd) w in (
-          in-order .0 q,
-          (
-            holds-true (mayEnd (cellAt m (placeOf S s))) .1 (ok-of (mayEnd (cellAt m (placeOf S s))) FaultyEnd a),
-            holds-true (mayEnd (cellAt m (placeOf S e))) .1 (ok-of (mayEnd (cellAt m (placeOf S e))) FaultyEnd b),
-          ),
-        ),
-    λ t.
-        let (q, (a, b)) = t in
-        ends-are ∙ rw (in-order .1 q, holds-true (mayEnd (cellAt m (placeOf S s))) .0 a, holds-true (mayEnd (cellAt m (placeOf S e))) .0 b),
-  )
+  -- ---- the bad cell that each answer names
 
-  -- "start or end of a route is faulty": refused by 9 exactly if an end does not work
-  pub faulty-iff : (checkEnds S cells s e ≡ Refused FaultyEnd) ↔ (InOrder S cells s e × (BothWork S cells s e → ⊥))
-  faulty-iff =
-      let a = mayEnd (cellAt m (placeOf S s)) in
-      let b = mayEnd (cellAt m (placeOf S e)) in (
-        λ h.
-            let (q, w) = past asked end-checks FaultyEnd (T-lt (answerNo asked) 9 .0 (asked-no (λ n. T (ltb n 9)) tt tt tt tt tt)) (sym ends-are ∙ h) in
-            (in-order .0 q, one-fails a b FaultyEnd w),
-        λ t. ends-are ∙ rw (in-order .1 (t .0)) (fails-one a b FaultyEnd (t .1)),
-      )
+  abbrev Names : Answer → Type 0
+  Names a = NamesBad S cells (answerNo a) (answerBad a)
 
-  -- a question that is not in order is refused before that, by the first check that fails
-  pub early : (InOrder S cells s e → ⊥) → (r : Refusal) × OutOfOrder S cells s e r × (checkEnds S cells s e ≡ Refused r)
-  early n = let (r, w, h) = sized (inRange S) refl in (r, w, ends-are ∙ stands asked end-checks r h)
-    where
-      Why : Type 0
-      Why = (r : Refusal) × OutOfOrder S cells s e r × (asked ≡ Refused r)
+  -- a test of another number names none
+  names-after : (a : Answer) (t : Bool) (r : Refusal) → refusalNo r ≢ 4 → refusalBad r ≡ 0 → Names a → Names (a andThen unless t r)
+  names-after a t r n z h = bad-then S cells a (unless t r) h (bad-unless S cells t r n z)
 
-      by-map : (r : Refusal) → OutOfOrder S cells s e r → Refused r ≡ checkMap S cells → Why
-      by-map r w h = (r, w, rw (← h))
+  ends-names : Names (checkEnds S cells s e)
+  unfolding checkEnds
+  ends-names =
+      let a = checkMap S cells andThen checkNode S s in
+      let b = a andThen checkNode S e in
+      let c = b andThen checkEnd m from in
+      names-after c (mayEnd (cellAt m to)) FaultyEnd (λ z. omega arith) refl
+      (names-after b (mayEnd (cellAt m from)) FaultyEnd (λ z. omega arith) refl
+      (names-after a (ltb e (nodes S)) BadNumber (λ z. omega arith) refl
+      (names-after (checkMap S cells) (ltb s (nodes S)) BadNumber (λ z. omega arith) refl (bad-map S cells))))
 
-      numbered : InRange S → length cells ≡ nodes S → GoodBelow S cells s e (nodes S) → checkMap S cells ≡ Done → Why
-      numbered i w g h =
-          let none : (s < nodes S) × (e < nodes S) → ⊥ = λ l. n (record { sized = i; whole = w; good = g; start-in = l .0; end-in = l .1 }) in (
-            BadNumber,
-            by-number i w g none,
-            then-then (checkMap S cells) (checkNode S s) (checkNode S e)
-                ∙ rw h (fails-one (ltb s (nodes S)) (ltb e (nodes S)) BadNumber (λ t. none (T-lt s (nodes S) .0 (t .0), T-lt e (nodes S) .0 (t .1)))),
-          )
-
-      celled : (t : Bool) → ltb (firstBad (badCell S) cells) (length cells) ≡ t → inRange S ≡ true → eqb (length cells) (nodes S) ≡ true → Why
-      celled true l i w =
-          let k = firstBad (badCell S) cells in
-          let there : k < length cells = ltb-true k (length cells) l in
-          let same : length cells ≡ nodes S = eqb-true (length cells) (nodes S) w in
-          by-map (BadCell k) (by-cell (sizes-of S i) same k (omega arith) (rw (first-at (badCell S) cells there) tt) (λ j h. rw (first-below (badCell S) cells j h) tt))
-          (map-4 S cells i w l)
-      celled false l i w =
-          let c = map-granted S cells (sym (map-0 S cells i w l)) in
-          numbered (c .sized) (c .whole) (λ k h. rw (c .good k (omega (arith, c .whole))) tt) (sym (map-0 S cells i w l))
-
-      whole : (t : Bool) → eqb (length cells) (nodes S) ≡ t → inRange S ≡ true → Why
-      whole true w i = celled (ltb (firstBad (badCell S) cells) (length cells)) refl i w
-      whole false w i = by-map BadLength (by-length (sizes-of S i) (eqb-false (length cells) (nodes S) w)) (map-2 S cells i w)
-
-      sized : (t : Bool) → inRange S ≡ t → Why
-      sized true i = whole (eqb (length cells) (nodes S)) refl i
-      sized false i = by-map BadSizes (by-sizes (λ r. let t = sizes-is S r in let z : _≡_ {A = ℕ} 0 1 = cc in omega arith)) (map-1 S cells i)
-
-  -- "no room": refused by 3 exactly if all checks before are passed and the room is short
-  pub ends-room : (need room : ℕ) → (checkEnds S cells s e andThen checkRoom need room ≡ Refused NoRoom) ↔ ((checkEnds S cells s e ≡ Done) × (room < need))
-  ends-room need room = short (checkEnds S cells s e) need room (ends-no (λ n. T (not (eqb n 3))) tt tt tt tt tt tt)
-
-  pub verdict-room : (need room : ℕ) → (verdictCheck S cells s e andThen checkRoom need room ≡ Refused NoRoom) ↔ ((verdictCheck S cells s e ≡ Done) × (room < need))
-  verdict-room need room = short (verdictCheck S cells s e) need room (verdict-no (λ n. T (not (eqb n 3))) tt tt tt tt tt tt tt)
-
-  -- ---- the path
-
-  pub granted-iff : (verdictCheck S cells s e ≡ Done) ↔ (InOrder S cells s e × Joined S cells s e)
+  pub verdict-names : Names (verdictCheck S cells s e)
   unfolding verdictCheck
-  granted-iff =
-      let t = leads m (placeOf S e) (placeOf S s) (placeOf S e) in (
-        λ h.
-            let (f, l) = split (checkEnds S cells s e) (unless t NoPath) h in
-            let (q, (a, b)) = ends-iff .0 f in
-            (q, path-iff m (placeOf S s) (placeOf S e) (place-in S s (q .start-in)) .1 (a, b, holds-true t .1 (ok-of t NoPath l))),
-        λ w.
-            let (q, p) = w in
-            let (a, b, l) = path-iff m (placeOf S s) (placeOf S e) (place-in S s (q .start-in)) .0 p in
-            rw (ends-iff .1 (q, (a, b)), holds-true t .0 l),
-      )
+  verdict-names = names-after (checkEnds S cells s e) (leads m to from to) NoPath (λ z. omega arith) refl ends-names
 
-  -- "no path": refused by 10 exactly if both ends work and no path joins them
-  pub refused-iff : (verdictCheck S cells s e ≡ Refused NoPath) ↔ (InOrder S cells s e × BothWork S cells s e × (Joined S cells s e → ⊥))
-  unfolding verdictCheck
-  refused-iff =
-      let t = leads m (placeOf S e) (placeOf S s) (placeOf S e) in (
-        λ h.
-            let (f, l) = past (checkEnds S cells s e) (unless t NoPath) NoPath (T-lt (answerNo (checkEnds S cells s e)) 10 .0 (ends-no (λ n. T (ltb n 10)) tt tt tt tt tt tt)) h in
-            let (q, (a, b)) = ends-iff .0 f in
-            let z : t ≡ false = test-failed t NoPath NoPath l in
-            (q, (a, b), λ p. rw z at (path-iff m (placeOf S s) (placeOf S e) (place-in S s (q .start-in)) .0 p .2)),
-        λ w.
-            let (q, (a, b), none) = w in
-            let z : t ≡ false = bool-ext t false (λ x. none (path-iff m (placeOf S s) (placeOf S e) (place-in S s (q .start-in)) .1 (a, b, x))) (λ x. absurd x) in
-            rw (ends-iff .1 (q, (a, b)), z),
-      )
+  pub route-names : (room : ℕ) → Names (routeCheck S cells s e room)
+  unfolding routeCheck
+  route-names room = names-after (verdictCheck S cells s e) (leb (routeLength S s e) room) NoRoom (λ z. omega arith) refl verdict-names
+
+  pub reached-names : (room : ℕ) → Names (reachedCheck S cells s e room)
+  unfolding reachedCheck
+  reached-names room = names-after (checkEnds S cells s e) (leb (nodes S) room) NoRoom (λ z. omega arith) refl ends-names
