@@ -1,7 +1,7 @@
 -- The state at any time is what calls on the fresh one lead to, and a sound state of the map. Assumes nothing.
-use mathlib.Core.Path.{refl, sym, ap, _∙_}
+use mathlib.Core.Path.{refl, sym}
 use mathlib.Core.Bool.{Bool, true, false, cond}
-use mathlib.Core.List.{List, [], _∷_, _++_}
+use mathlib.Core.List.{List, [], _∷_}
 use Prim.Native.Nat.{ℕ, zero, suc, _+_, _/_, _%_, _≤_}
 use native.Mathlib.Omega.{arith}
 use lib.Dec.{ltb}
@@ -10,8 +10,8 @@ use Rattle.mesh.specs.Mesh.{InRange}
 use Rattle.mesh.specs.Cells.{Map}
 use Rattle.mesh.specs.declared.Sizes.{Sizes}
 use Rattle.talk.specs.Sound.{fresh}
-use Rattle.talk.specs.Rounds.{hearing, run, Later}
-use Rattle.talk.proofs.Later.{stretch-join, run-append}
+use Rattle.talk.specs.Rounds.{hearing, Later}
+use Rattle.talk.proofs.Later.{later-refl, later-trans}
 use Rattle.talk.proofs.Exists.{sweep, sweep-kept}
 use Rattle.talk.proofs.Fresh.{fresh-promise}
 use Rattle.rounds.specs.Chance.{following, chosen, Fate, lost, late, twice, once, fateOf}
@@ -21,27 +21,16 @@ use Rattle.rounds.proofs.Going.{following-small, visits-going, tells-fi
 use Rattle.rounds.proofs.Full.{round-leads}
 
 module _ (S : Sizes) (o : ℕ) where
-  stays : (s : List ℕ) → Later S o s s
-  stays s = record { calls = []; kept = tt; ends = refl }
-
-  onwards : (s t u : List ℕ) → Later S o s t → Later S o t u → Later S o s u
-  onwards s t u a b =
-      record {
-        calls = a .calls ++ b .calls;
-        kept = stretch-join (a .calls) (b .calls) (a .kept) (b .kept);
-        ends = b .ends ∙ ap (λ (v : List ℕ). run S o v (b .calls)) (a .ends) ∙ sym (run-append S o (a .calls) (b .calls) s);
-      }
-
   come-later : (s : List ℕ) (l w : ℕ) → Later S o s (comes S o l w s)
   come-later s l w = record { calls = hearing (l / 6) (l % 6) w ∷ []; kept = tt; ends = refl }
 
   state-later : (n : Net) (l : ℕ) (f : Fate) → Later S o (n .state) (stateBy S o n l f)
-  state-later n l lost = stays (n .state)
+  state-later n l lost = later-refl S o (n .state)
   state-later n l late = come-later (n .state) l (getD (n .way) l 0)
   state-later n l twice =
       let w = saying S (n .state) l in
       let t = comes S o l w (n .state) in
-      onwards (n .state) t (comes S o l w t) (come-later (n .state) l w) (come-later t l w)
+      later-trans S o (n .state) t (comes S o l w t) (come-later (n .state) l w) (come-later t l w)
   state-later n l once = come-later (n .state) l (saying S (n .state) l)
 
   visit-later : (n : Net) (l : ℕ) → Later S o (n .state) (visit S o n l .state)
@@ -50,11 +39,11 @@ module _ (S : Sizes) (o : ℕ) where
 
   visits-later : (first stride : ℕ) (n : Net) (i : ℕ) → Later S o (n .state) (visits S o first stride n i .state)
   unfolding visits
-  visits-later first stride n zero = stays (n .state)
+  visits-later first stride n zero = later-refl S o (n .state)
   visits-later first stride n (suc i) =
       let v = visits S o first stride n i in
       let l = met S first stride i in
-      onwards (n .state) (v .state) (visit S o v l .state) (visits-later first stride n i) (visit-later v l)
+      later-trans S o (n .state) (v .state) (visit S o v l .state) (visits-later first stride n i) (visit-later v l)
 
   lossy-later : (n : Net) → Later S o (n .state) (lossyRound S o n .state)
   unfolding lossyRound
@@ -88,10 +77,10 @@ module _ (S : Sizes) (o : ℕ) where
 module _ (m : Map) (o : ℕ) where
   pub later : (r : ℕ) → Later (m .sizes) o (fresh m o) (afterRounds m o r .state)
   unfolding afterRounds
-  later zero = stays (m .sizes) o (fresh m o)
+  later zero = later-refl (m .sizes) o (fresh m o)
   later (suc r) =
       let n = afterRounds m o r in
-      onwards (m .sizes) o (fresh m o) (n .state) (oneRound (m .sizes) o r n .state) (later r) (round-later (m .sizes) o r n)
+      later-trans (m .sizes) o (fresh m o) (n .state) (oneRound (m .sizes) o r n .state) (later r) (round-later (m .sizes) o r n)
 
   module _ (fit : InRange (m .sizes)) (o-le : o ≤ 7) where
     pub going : (r : ℕ) → Going (m .sizes) o (afterRounds m o r)

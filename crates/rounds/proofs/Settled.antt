@@ -11,13 +11,11 @@ use lib.Dec.{T}
 use Rattle.mesh.specs.Mesh.{InRange, inRange}
 use Rattle.mesh.specs.Cells.{Map}
 use Rattle.mesh.specs.declared.Sizes.{Sizes}
-use Rattle.mesh.specs.declared.Numbered.the-variants.{Number}
 use Rattle.mesh.proofs.Tests.{holds-true}
 use Rattle.mesh.proofs.Answers.{sizes-is}
 use Rattle.talk.specs.Sound.{SoundOn, fresh}
-use Rattle.talk.specs.Entries.{outstandingAnswer}
 use Rattle.talk.specs.Rounds.{run, FullRounds, none, more}
-use Rattle.talk.specs.Promise.{Promise}
+use Rattle.talk.specs.Promise.{countRefusal, countOf, Promise}
 use Rattle.talk.proofs.Same.{sound-on}
 use Rattle.talk.proofs.Fresh.{fresh-promise}
 use Rattle.talk.proofs.Soon.{soon-settled}
@@ -102,14 +100,15 @@ module _ (m : Map) (o : ℕ) where
     last-settled = soon-settled m o ranged o-le (at lossyRounds) (at (longest S)) (sound-at lossyRounds)
         (full (S .w + S .h + S .d) lossyRounds (omega arith))
 
-    exact : (r : ℕ) → outstandingAnswer S o (at r) ≡ Number (outstandingAfter m o r)
+    exact : (r : ℕ) → (countRefusal S o (at r) ≡ 0) × (countOf S o (at r) ≡ outstandingAfter m o r)
     exact r = promised .exact (at r) (later m o r)
 
     pub talk-promise : TalkPromise m o
     talk-promise =
         let z : longest S ≡ 0 + longest S = omega arith in
         let f = found (longest S) 0 (subst (λ (k : ℕ). outstandingAfter m o k ≡ 0) z last-settled) in
-        let done = exact (settledAt m o) ∙ ap Number (f .none-left) in
+        let (granted, news) = exact (settledAt m o) in
+        let done = (granted, news ∙ f .none-left) in
         record {
           later = later m o;
           full = full;

@@ -11,13 +11,15 @@ use lib.ListN.{getD, length}
 use Rattle.mesh.specs.Mesh.{inRange, nodes}
 use Rattle.mesh.specs.Cells.{Map, stateLength}
 use Rattle.rules.specs.Marks.{isWord, ruleByte}
-use Rattle.mesh.specs.Answers.{granted, _andThen_, unless, checkMap, checkOrientation, checkNode, checkDirection}
+use Rattle.mesh.specs.Answers.{answerNo, granted, _andThen_, unless, checkMap, checkOrientation, checkNode, checkDirection}
 use Rattle.mesh.specs.declared.Sizes.{Sizes}
 use Rattle.mesh.specs.declared.Refusal.{Refusal}
 use Rattle.mesh.specs.declared.Answer.{Answer}
 use Rattle.mesh.specs.declared.Answer.the-variants.{Done, Refused}
 use Rattle.mesh.specs.declared.Numbered.the-variants.{Number}
 use Rattle.mesh.proofs.Tests.{T-and, T-eq, T-le, tried}
+use Rattle.mesh.proofs.Answers.{kept}
+use Rattle.mesh.proofs.Order.{done-of, refused-of}
 use Rattle.talk.specs.State.{own, heard, SameAt, mapIn, pair, says}
 use Rattle.talk.specs.Sound.{_noMoreThan_, Sound, SoundOn}
 use Rattle.talk.specs.Hear.{addMarks, changed, outstandingOn}
@@ -28,7 +30,16 @@ use Rattle.talk.proofs.Rule.{ruled-same}
 use Rattle.talk.proofs.State.{pair-talks, dir-lt-six}
 use Rattle.talk.proofs.Hear.{others-kept, heard-new, own-new, nothing-new}
 
--- a call is granted exactly where each check is passed
+-- ---- what is lent, by the number of the answer
+
+pub written : {A : Type 0} (a : Answer) (new old : List A) → answerNo a ≡ 0 → granted a new old ≡ new
+written a new old e = rw (done-of a e)
+
+pub unchanged : {A : Type 0} (a : Answer) (new old : List A) → answerNo a ≢ 0 → granted a new old ≡ old
+unchanged a new old n = let (r, e) = refused-of a n in kept a r new old e
+
+-- ---- a call is granted exactly where each check is passed
+
 both : (a b : Answer) → (a andThen b ≡ Done) ↔ ((a ≡ Done) × (b ≡ Done))
 both Done b = (λ e. (refl, e), λ e. e .1)
 both (Refused r) b = (λ e. let z : _≡_ {A = ℕ} 0 1 = cc in absurd (omega arith), λ e. e .0)
@@ -104,15 +115,16 @@ itself S o k j w s t a b e = rw (a, b) (own-same, heard-same)
 
 module _ (m : Map) (o : ℕ) (fit : T (inRange (m .sizes))) (o-le : o ≤ 7) (s : List ℕ) (z : SoundOn m o s) where
   -- a word that the speaker holds is granted
-  takes : (k j w : ℕ) → k < nodes (m .sizes) → j < 6 → T (pair m k j) → T (isWord w) → w noMoreThan says (m .sizes) s k j
-      → hearAnswer (m .sizes) o k j w s ≡ Done
-  takes k j w l h t v f =
+  pub takes : (k j w : ℕ) → T (pair m k j) → T (isWord w) → w noMoreThan says (m .sizes) s k j → hearAnswer (m .sizes) o k j w s ≡ Done
+  takes k j w t v f =
+      let r = pair-talks m k j t in
+      let h : j ≤ 5 = omega (arith, dir-lt-six m k j r) in
       let q : T (pair (mapIn (m .sizes) s) k j) = rw (pair-in m o s z k j) t in
-      hear-passed (m .sizes) o k j w s .1 ((((((((fit, z .long), o-le), l), omega arith), v), on-sound m o s z), q), f)
+      hear-passed (m .sizes) o k j w s .1 ((((((((fit, z .long), o-le), r .lt), h), v), on-sound m o s z), q), f)
 
-  pub grants : (k j w : ℕ) → k < nodes (m .sizes) → j < 6 → T (pair m k j) → T (isWord w) → w noMoreThan says (m .sizes) s k j
+  pub grants : (k j w : ℕ) → T (pair m k j) → T (isWord w) → w noMoreThan says (m .sizes) s k j
       → hearOut (m .sizes) o k j w s ≡ changed (m .sizes) o k j w s
-  grants k j w l h t v f = rw (takes k j w l h t v f)
+  grants k j w t v f = rw (takes k j w t v f)
 
   -- and changes nothing where it is late
   pub late : (k j w : ℕ) → T (pair m k j) → T (isWord w) → w noMoreThan heard s k j
@@ -120,7 +132,7 @@ module _ (m : Map) (o : ℕ) (fit : T (inRange (m .sizes))) (o-le : o ≤ 7) (s 
   late k j w t v f =
       let r = pair-talks m k j t in
       let (word, held) = z .words k j t in
-      let e = takes k j w (r .lt) (dir-lt-six m k j r) t v λ a x. held a (f a x) in
+      let e = takes k j w t v λ a x. held a (f a x) in
       (e, rw e (nothing-new (m .sizes) o s k j w word (z .ruled k (r .lt) (r .works-k)) f))
 
   -- and only such a word

@@ -22,10 +22,10 @@ module _ (S : Sizes) (o : ℕ) (s : List ℕ) where
   sweep zero = []
   sweep (suc n) = sweep n ++ call (sweep n) n ∷ []
 
-  pub sweep-kept : (n : ℕ) → T (stretch (sweep n))
+  pub sweep-kept : (n : ℕ) → T (stretch S o s (sweep n))
   unfolding sweep
   sweep-kept zero = tt
-  sweep-kept (suc n) = stretch-join (sweep n) (call (sweep n) n ∷ []) (sweep-kept n) tt
+  sweep-kept (suc n) = stretch-join S o (sweep n) (call (sweep n) n ∷ []) s (sweep-kept n) tt
 
   sweep-has : (n i : ℕ) → i < n → (a b c : List Call) × (sweep n ≡ a ++ b ++ call a i ∷ c)
   unfolding sweep

@@ -95,5 +95,5 @@ module _ (m : Map) (o : ℕ) where
     words = λ k j t. rw (silent k j t) (tt, none-within (says (m .sizes) s k j));
   }
 
-  pub fresh-promise : FreshPromise m o
+  pub fresh-promise : FreshPromise m o s
   fresh-promise = record { sound = on-sound m o s fresh-sound; state = on-state m o s fresh-sound; silent = silent; near = near }

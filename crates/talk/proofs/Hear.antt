@@ -25,7 +25,7 @@ use Rattle.talk.proofs.Rule.{word-blocks, ruled-same, ruled-grows}
 
 -- ---- the byte with a word's marks added
 
-added-marks : (b w : ℕ) (a : Kind) → T (has (addMarks b w) a) ↔ (T (has b a) ⊎ T (has w a))
+pub added-marks : (b w : ℕ) (a : Kind) → T (has (addMarks b w) a) ↔ (T (has b a) ⊎ T (has w a))
 unfolding addMarks
 added-marks b w a = rw (has-byte (λ a. has b a || has w a) a) (T-or (has b a) (has w a))
 

@@ -7,10 +7,13 @@ pub mod Hear
 pub mod Calls
 pub mod Later
 pub mod Exact
+pub mod Shown
 pub mod Rounds
 pub mod Soon
 pub mod Exists
 pub mod Promise
+pub mod Entries
+pub mod Unique
 pub mod Flat
 pub mod Computed
 pub mod Impostors

@@ -4,3 +4,4 @@ pub mod Hear
 pub mod Entries
 pub mod Rounds
 pub mod Promise
+pub mod Calls
