@@ -1,6 +1,7 @@
 -- What the promise of map files rules out, whoever reads and writes: one that refuses everything, one with a constant reply, and one that
 -- leaves its output untouched. Assumes nothing.
 use mathlib.Core.Path.{_≡_, refl, sym, ap, _∙_}
+use mathlib.Core.Logic.{_≢_}
 use mathlib.Core.Bool.{Bool, true, _&&_}
 use mathlib.Core.List.{List, [], _∷_, _++_}
 use Prim.Native.Nat.{ℕ, zero, suc, _<_}
@@ -9,18 +10,12 @@ use lib.Dec.{T, ltb}
 use lib.ListN.{getD, drop, replicate}
 use Rattle.mesh.specs.Mesh.{sizes, inRange}
 use Rattle.mesh.specs.Cells.{badCell, firstBad}
-use Rattle.mesh.specs.Answers.{checkMap}
+use Rattle.mesh.specs.Answers.{checkMap, numberedNo}
 use Rattle.mesh.specs.declared.Sizes.{Sizes}
-use Rattle.mesh.specs.declared.Refusal.{Refusal}
-use Rattle.mesh.specs.declared.Numbered.{Numbered}
-use Rattle.mesh.specs.declared.Numbered.the-variants.{Number, NotNumbered}
 use Rattle.mesh.proofs.Tests.{T-and, T-lt}
 use Rattle.format.specs.Format.{trailer, fileOf, MapFile}
-use Rattle.format.specs.Entry.{writeCheck, writeAnswer, writeOut}
+use Rattle.format.specs.Entry.{writeCheck, writeAnswer}
 use Rattle.format.specs.Promise.{Reads, Writes}
-use Rattle.format.specs.declared.MapRead.{MapRead}
-use Rattle.format.specs.declared.MapRead.the-variants.{Read, NotRead}
-use Rattle.format.proofs.Writing.{written-file}
 use Rattle.format.proofs.Promise.{writes, one-writing}
 
 -- two maps, of 2 × 2 × 1 with one faulty node and of 2 × 3 × 1, and some room
@@ -39,13 +34,19 @@ more = 0 ∷ 0 ∷ 0 ∷ 0 ∷ 0 ∷ 0 ∷ []
 abbrev room : List ℕ
 room = replicate 20 0
 
+flat-granted : numberedNo (writeAnswer flat few 20) ≡ 0
+unfolding writeAnswer writeCheck checkMap inRange badCell firstBad
+flat-granted = refl
+
+long-granted : numberedNo (writeAnswer long more 20) ≡ 0
+unfolding writeAnswer writeCheck checkMap inRange badCell firstBad
+long-granted = refl
+
 flat-file : MapFile flat few (fileOf flat few)
-unfolding writeCheck checkMap inRange badCell firstBad
-flat-file = written-file flat few 20 refl
+flat-file = writes flat few room .a-file flat-granted
 
 long-file : MapFile long more (fileOf long more)
-unfolding writeCheck checkMap inRange badCell firstBad
-long-file = written-file long more 20 refl
+long-file = writes long more room .a-file long-granted
 
 -- bytes are small
 allSmall : List ℕ → Bool
@@ -68,68 +69,55 @@ long-small = small (fileOf long more) tt
 
 -- ---- readers
 
-module _ (answer : List ℕ → List ℕ → MapRead) (out : List ℕ → List ℕ → List ℕ)
-    (keeps : (file old : List ℕ) → ((i : ℕ) → getD file i 0 < 256) → Reads file old (answer file old) (out file old)) where
-  flat-read : answer (fileOf flat few) room ≡ Read flat
-  flat-read = keeps (fileOf flat few) room flat-small .read flat .1 (few, flat-file, omega arith)
+module _ (refusal bad w h d : List ℕ → List ℕ → ℕ) (out : List ℕ → List ℕ → List ℕ)
+    (keeps : (file old : List ℕ) → ((i : ℕ) → getD file i 0 < 256)
+    → Reads file old (refusal file old) (bad file old) (w file old) (h file old) (d file old) (out file old)) where
+  flat-read : refusal (fileOf flat few) room ≡ 0
+  flat-read = keeps (fileOf flat few) room flat-small .read .1 (flat, few, flat-file, omega arith)
 
-  long-read : answer (fileOf long more) room ≡ Read long
-  long-read = keeps (fileOf long more) room long-small .read long .1 (more, long-file, omega arith)
+  long-read : refusal (fileOf long more) room ≡ 0
+  long-read = keeps (fileOf long more) room long-small .read .1 (long, more, long-file, omega arith)
 
-  pub reads-refusing : ((file old : List ℕ) → (r : Refusal) × (answer file old ≡ NotRead r)) → ⊥
-  reads-refusing f =
-      let e = flat-read in
-      let n = f (fileOf flat few) room .1 in
-      let z : _≡_ {A = ℕ} 0 1 = cc in
-      omega arith
+  pub reads-refusing : ((file old : List ℕ) → refusal file old ≢ 0) → ⊥
+  reads-refusing f = f (fileOf flat few) room flat-read
 
-  pub reads-constant : (a : MapRead) → ((file old : List ℕ) → answer file old ≡ a) → ⊥
-  reads-constant a f =
-      let same : Read flat ≡ Read long = sym flat-read ∙ f (fileOf flat few) room ∙ sym (f (fileOf long more) room) ∙ long-read in
-      let e : flat ≡ long = cc in
-      let h : _≡_ {A = ℕ} 2 3 = ap (λ (S : Sizes). S .h) e in
-      omega arith
+  -- not even the height may be constant
+  pub reads-constant : (n : ℕ) → ((file old : List ℕ) → h file old ≡ n) → ⊥
+  reads-constant n f =
+      let two : h (fileOf flat few) room ≡ 2 = keeps (fileOf flat few) room flat-small .given flat-read flat-file .1 in
+      let three : h (fileOf long more) room ≡ 3 = keeps (fileOf long more) room long-small .given long-read long-file .1 in
+      omega (arith, f (fileOf flat few) room, f (fileOf long more) room)
 
   pub reads-untouched : ((file old : List ℕ) → out file old ≡ old) → ⊥
   reads-untouched f =
-      let e : few ++ drop 4 room ≡ room = sym (keeps (fileOf flat few) room flat-small .given flat-file (omega arith)) ∙ f (fileOf flat few) room in
+      let e : few ++ drop 4 room ≡ room = sym (keeps (fileOf flat few) room flat-small .given flat-read flat-file .3) ∙ f (fileOf flat few) room in
       let h : _≡_ {A = ℕ} 1 0 = ap (λ (l : List ℕ). getD l 1 0) e in
       omega arith
 
 -- ---- writers
 
-flat-written : writeAnswer flat few 20 ≡ Number 16
-unfolding writeAnswer writeCheck checkMap inRange badCell firstBad
-flat-written = refl
+module _ (refusal bad n : Sizes → List ℕ → List ℕ → ℕ) (out : Sizes → List ℕ → List ℕ → List ℕ)
+    (keeps : (S : Sizes) (cells old : List ℕ) → Writes S cells old (refusal S cells old) (bad S cells old) (n S cells old) (out S cells old)) where
+  flat-written : refusal flat few room ≡ 0
+  flat-written = one-writing (keeps flat few room) (writes flat few room) .0 ∙ flat-granted
 
-long-written : writeAnswer long more 20 ≡ Number 18
-unfolding writeAnswer writeCheck checkMap inRange badCell firstBad
-long-written = refl
+  long-written : refusal long more room ≡ 0
+  long-written = one-writing (keeps long more room) (writes long more room) .0 ∙ long-granted
 
-module _ (answer : Sizes → List ℕ → List ℕ → Numbered) (out : Sizes → List ℕ → List ℕ → List ℕ)
-    (keeps : (S : Sizes) (cells old : List ℕ) → Writes S cells old (answer S cells old) (out S cells old)) where
-  as-defined : (S : Sizes) (cells : List ℕ) → answer S cells room ≡ writeAnswer S cells 20
-  as-defined S cells =
-      one-writing S cells room (answer S cells room) (writeAnswer S cells 20) (out S cells room) (writeOut S cells room)
-      (keeps S cells room) (writes S cells room) .0
+  pub writes-refusing : ((S : Sizes) (cells old : List ℕ) → refusal S cells old ≢ 0) → ⊥
+  writes-refusing f = f flat few room flat-written
 
-  pub writes-refusing : ((S : Sizes) (cells old : List ℕ) → (r : Refusal) × (answer S cells old ≡ NotNumbered r)) → ⊥
-  writes-refusing f =
-      let e = as-defined flat few ∙ flat-written in
-      let n = f flat few room .1 in
-      let z : _≡_ {A = ℕ} 0 1 = cc in
-      omega arith
-
-  pub writes-constant : (a : Numbered) → ((S : Sizes) (cells old : List ℕ) → answer S cells old ≡ a) → ⊥
-  writes-constant a f =
-      let one = sym (as-defined flat few ∙ flat-written) ∙ f flat few room in
-      let same : Number 16 ≡ Number 18 = one ∙ sym (f long more room) ∙ as-defined long more ∙ long-written in
-      let e : _≡_ {A = ℕ} 16 18 = cc in
-      omega arith
+  -- not even the length may be constant
+  pub writes-constant : (k : ℕ) → ((S : Sizes) (cells old : List ℕ) → n S cells old ≡ k) → ⊥
+  unfolding trailer
+  writes-constant k f =
+      let sixteen : n flat few room ≡ 16 = keeps flat few room .size flat-written in
+      let eighteen : n long more room ≡ 18 = keeps long more room .size long-written in
+      omega (arith, f flat few room, f long more room)
 
   pub writes-untouched : ((S : Sizes) (cells old : List ℕ) → out S cells old ≡ old) → ⊥
   unfolding trailer
   writes-untouched f =
-      let e : fileOf flat few ++ drop 16 room ≡ room = sym (keeps flat few room .written 16 (as-defined flat few ∙ flat-written)) ∙ f flat few room in
+      let e = sym (keeps flat few room .written flat-written) ∙ f flat few room in
       let h : _≡_ {A = ℕ} 1 0 = ap (λ (l : List ℕ). getD l 1 0) e in
       omega arith

@@ -1,9 +1,9 @@
-pub mod Checks
+pub mod Order
 pub mod Refusals
-pub mod Reasons
 pub mod Bytes
 pub mod Reading
 pub mod Read
 pub mod Writing
 pub mod Promise
 pub mod Impostors
+pub mod Length

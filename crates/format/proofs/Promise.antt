@@ -1,114 +1,178 @@
 -- Reading and writing as defined keep the promise of map files, and nothing else does; reading gives back what was written.
 -- Assumes nothing.
 use mathlib.Core.Path.{_≡_, refl, sym, ap, _∙_, subst}
-use mathlib.Core.Logic.{inl, inr}
+use mathlib.Core.Logic.{_≢_, _⊎_, inl, inr}
 use mathlib.Core.List.{List, _++_}
 use Prim.Native.Nat.{ℕ, _<_, _≤_}
-use native.Mathlib.Omega.{arith}
+use lib.Dec.{eqb}
 use lib.ListN.{length, getD, take, drop}
 use lib.Seq.{take-at}
 use Rattle.mesh.specs.Mesh.{nodes}
+use Rattle.mesh.specs.Answers.{answerNo, answerBad, answerValue, numberedNo, numberedBad, numberedValue}
+use Rattle.mesh.specs.Order.{_give_, InOrder, NamesBad}
 use Rattle.mesh.specs.declared.Sizes.{Sizes}
-use Rattle.mesh.specs.declared.Refusal.{Refusal}
 use Rattle.mesh.specs.declared.Answer.{Answer}
 use Rattle.mesh.specs.declared.Answer.the-variants.{Done, Refused}
 use Rattle.mesh.specs.declared.Numbered.{Numbered}
-use Rattle.mesh.specs.declared.Numbered.the-variants.{Number, NotNumbered}
+use Rattle.mesh.proofs.Tests.{T-no, T-eq, tried}
 use Rattle.mesh.proofs.Answers.{kept}
-use Rattle.mesh.proofs.Granted.{number-stands, number-refused}
-use Rattle.format.specs.Format.{distance, fileOf, MapFile, sizesIn}
-use Rattle.format.specs.Entry.{mapRead, readCheck, readAnswer, readWritten, readOut, writeCheck, writeAnswer, writeWritten, writeOut}
-use Rattle.format.specs.Promise.{ReadRefused, WriteRefused, Reads, Writes}
+use Rattle.mesh.proofs.Order.{one-number, gives, done-of, refused-of, numbered-as}
+use Rattle.format.specs.Format.{distance, fileOf, MapFile, sizesIn, cellsIn}
+use Rattle.format.specs.Entry.{mapRead, mapReadNo, mapReadBad, mapReadSizes, readCheck, readAnswer, readWritten, readOut}
+use Rattle.format.specs.Entry.{writeCheck, writeAnswer, writeWritten, writeOut}
+use Rattle.format.specs.Promise.{readChecks, writeChecks, Reads, Writes}
 use Rattle.format.specs.declared.MapRead.{MapRead}
-use Rattle.format.specs.declared.MapRead.the-variants.{Read, NotRead}
-use Rattle.format.proofs.Refusals.{not-read, not-written}
-use Rattle.format.proofs.Reasons.{read-refused, read-decided, write-refused, write-decided}
-use Rattle.format.proofs.Reading.{read-exactly, read-out}
+use Rattle.format.proofs.Order.{read-decided, read-bad, write-decided, write-passes, write-bad, one-bad}
+use Rattle.format.proofs.Refusals.{not-read, is-read}
+use Rattle.format.proofs.Reading.{file-sizes, file-granted, read-exactly, read-out}
 use Rattle.format.proofs.Writing.{file-size, written-file}
+
+zero-or-not : (n : ℕ) → (n ≡ 0) ⊎ (n ≢ 0)
+zero-or-not n = elim (tried (eqb n 0)) [ inl t ↦ inl (T-eq n 0 .0 t) | inr t ↦ inr (λ e. T-no (eqb n 0) .0 t (T-eq n 0 .1 e)) ]
 
 -- ---- reading
 
-refused-as : (a : Answer) (S : Sizes) (r : Refusal) → mapRead a S ≡ NotRead r → a ≡ Refused r
-refused-as Done S r e = let z : _≡_ {A = ℕ} 0 1 = cc in absurd (omega arith)
-refused-as (Refused q) S r e = cc
+read-numbers : (a : Answer) (S : Sizes) → (mapReadNo (mapRead a S) ≡ answerNo a) × (mapReadBad (mapRead a S) ≡ answerBad a)
+read-numbers Done S = (refl, refl)
+read-numbers (Refused r) S = (refl, refl)
+
+each : {S Z : Sizes} → S ≡ Z → (S .w ≡ Z .w) × (S .h ≡ Z .h) × (S .d ≡ Z .d)
+each e = (ap (λ (S : Sizes). S .w) e, ap (λ (S : Sizes). S .h) e, ap (λ (S : Sizes). S .d) e)
+
+module _ (file : List ℕ) (room : ℕ) where
+  numbers : (mapReadNo (readAnswer file room) ≡ answerNo (readCheck file room)) × (mapReadBad (readAnswer file room) ≡ answerBad (readCheck file room))
+  unfolding readAnswer
+  numbers = read-numbers (readCheck file room) (sizesIn file)
+
+  pub read-order : readChecks file room give mapReadNo (readAnswer file room)
+  read-order = rw (numbers .0) (gives (readChecks file room) (readCheck file room) (read-decided file room))
+
+  pub read-names-bad : NamesBad (sizesIn file) (cellsIn file) (mapReadNo (readAnswer file room)) (mapReadBad (readAnswer file room))
+  read-names-bad = rw (numbers .0, numbers .1) (read-bad file room)
+
+  pub read-file : {S : Sizes} {cells : List ℕ} → MapFile S cells file → nodes S ≤ room → mapReadNo (readAnswer file room) ≡ 0
+  read-file f h = numbers .0 ∙ ap answerNo (file-granted file f room h)
 
 module _ (file old : List ℕ) where
-  read-why : (r : Refusal) → readCheck file (length old) ≡ Refused r → ReadRefused file (length old) r
-  read-why r e = elim (read-decided file (length old)) [
-    | inl d ↦ let z : _≡_ {A = ℕ} 0 1 = cc in absurd (omega arith)
-    | inr q ↦ let f = q .1 in let same : q .0 ≡ r = cc in subst (ReadRefused file (length old)) same (q .2)
-  ]
+  abbrev answer : MapRead
+  answer = readAnswer file (length old)
 
-  pub reads : ((i : ℕ) → getD file i 0 < 256) → Reads file old (readAnswer file (length old)) (readOut file old)
-  unfolding readAnswer
+  abbrev reading : Answer
+  reading = readCheck file (length old)
+
+  told : mapReadNo answer ≡ answerNo reading
+  told = numbers file (length old) .0
+
+  pub read-given : mapReadNo answer ≡ 0 → {S : Sizes} {cells : List ℕ} → MapFile S cells file
+      → (mapReadSizes answer .w ≡ S .w) × (mapReadSizes answer .h ≡ S .h) × (mapReadSizes answer .d ≡ S .d)
+      × (readOut file old ≡ cells ++ drop (nodes S) old)
+  read-given e f =
+      let done = done-of reading (sym told ∙ e) in
+      let q = each (ap mapReadSizes (is-read file (length old) done) ∙ file-sizes file f) in
+      (q .0, q .1, q .2, read-out file f old done)
+
+  pub read-nothing : mapReadNo answer ≢ 0
+      → (mapReadSizes answer .w ≡ 0) × (mapReadSizes answer .h ≡ 0) × (mapReadSizes answer .d ≡ 0) × (readOut file old ≡ old)
+  read-nothing n =
+      let (r, e) = refused-of reading (λ z. n (told ∙ z)) in
+      let q = each (ap mapReadSizes (not-read file (length old) r e)) in
+      (q .0, q .1, q .2, kept reading r (readWritten file old) old e)
+
+  -- A file has bytes: that one which is read is a map file (`read`, from left to right) needs this, and nothing else does.
+  pub reads : ((i : ℕ) → getD file i 0 < 256)
+      → Reads file old (mapReadNo answer) (mapReadBad answer) (mapReadSizes answer .w) (mapReadSizes answer .h) (mapReadSizes answer .d) (readOut file old)
   reads bytes =
-      let check = readCheck file (length old) in
       record {
-        read = read-exactly file bytes (length old);
-        given = λ f h. read-out file f old h;
-        refused = λ r. (
-          λ e. read-why r (refused-as check (sizesIn file) r e),
-          λ why. not-read file (length old) r (read-refused file (length old) r why),
+        order = read-order file (length old);
+        names-bad = read-names-bad file (length old);
+        read = (
+          λ e. let (cells, f, h) = read-exactly file bytes (length old) (mapReadSizes answer) .0 (e, refl) in (mapReadSizes answer, cells, f, h),
+          λ q. read-file file (length old) (q .2) (q .3),
         );
-        kept = λ r e. kept check r (readWritten file old) old (refused-as check (sizesIn file) r e);
+        given = read-given;
+        nothing = read-nothing;
       }
 
+alike : {w h d w′ h′ d′ x y z : ℕ} {new new′ l : List ℕ} → (w ≡ x) × (h ≡ y) × (d ≡ z) × (new ≡ l) → (w′ ≡ x) × (h′ ≡ y) × (d′ ≡ z) × (new′ ≡ l)
+    → (w ≡ w′) × (h ≡ h′) × (d ≡ d′) × (new ≡ new′)
+alike a b = (a .0 ∙ sym (b .0), a .1 ∙ sym (b .1), a .2 ∙ sym (b .2), a .3 ∙ sym (b .3))
+
 -- "Any two outcomes it allows are proved equal."
-pub one-reading : (file old : List ℕ) (a b : MapRead) (new other : List ℕ) → Reads file old a new → Reads file old b other → (a ≡ b) × (new ≡ other)
-one-reading file old (Read S) b new other p q =
-    let (cells, f, h) = p .read S .0 refl in
-    (sym (q .read S .1 (cells, f, h)), p .given f h ∙ sym (q .given f h))
-one-reading file old (NotRead r) b new other p q =
-    let same = q .refused r .1 (p .refused r .0 refl) in
-    (sym same, p .kept r refl ∙ sym (q .kept r same))
+pub one-reading : {file old : List ℕ} {r b w h d r′ b′ w′ h′ d′ : ℕ} {new new′ : List ℕ}
+    → Reads file old r b w h d new → Reads file old r′ b′ w′ h′ d′ new′
+    → (r ≡ r′) × (b ≡ b′) × (w ≡ w′) × (h ≡ h′) × (d ≡ d′) × (new ≡ new′)
+one-reading {file} {old} {r} {b} {w} {h} {d} {r′} {b′} {w′} {h′} {d′} {new} {new′} p q =
+    let same = one-number (readChecks file (length old)) r r′ (p .order) (q .order) in
+    let cell = one-bad (p .names-bad) (subst (λ (n : ℕ). NamesBad (sizesIn file) (cellsIn file) n b′) (sym same) (q .names-bad)) in
+    let rest : (w ≡ w′) × (h ≡ h′) × (d ≡ d′) × (new ≡ new′) = elim (zero-or-not r) [
+      | inl e ↦ let (S, cells, f, _) = p .read .0 e in alike (p .given e f) (q .given (sym same ∙ e) f)
+      | inr n ↦ alike (p .nothing n) (q .nothing (λ e. n (same ∙ e)))
+    ] in
+    (same, cell, rest .0, rest .1, rest .2, rest .3)
 
 -- ---- writing
 
 module _ (S : Sizes) (cells old : List ℕ) where
-  abbrev check : Answer
-  check = writeCheck S cells (length old)
+  abbrev writing : Answer
+  writing = writeCheck S cells (length old)
 
-  write-why : (r : Refusal) → check ≡ Refused r → WriteRefused S cells (length old) r
-  write-why r e = elim (write-decided S cells (length old)) [
-    | inl d ↦ let z : _≡_ {A = ℕ} 0 1 = cc in absurd (omega arith)
-    | inr q ↦ let f = q .1 in let same : q .0 ≡ r = cc in subst (WriteRefused S cells (length old)) same (q .2)
-  ]
+  abbrev counted : Numbered
+  counted = writeAnswer S cells (length old)
 
-  pub writes : Writes S cells old (writeAnswer S cells (length old)) (writeOut S cells old)
-  unfolding writeAnswer writeWritten
+  values : (numberedNo counted ≡ answerNo writing) × (numberedBad counted ≡ answerBad writing)
+      × (numberedValue counted ≡ answerValue writing (distance S))
+  unfolding writeAnswer
+  values = numbered-as writing (distance S)
+
+  done : numberedNo counted ≡ 0 → writing ≡ Done
+  done e = done-of writing (sym (values .0) ∙ e)
+
+  counts : numberedNo counted ≡ 0 → numberedValue counted ≡ distance S
+  counts e = values .2 ∙ ap (λ (a : Answer). answerValue a (distance S)) (done e)
+
+  ordered : numberedNo counted ≡ 0 → InOrder S cells
+  ordered e = let (s, (l, (g, _))) = write-passes S cells (length old) .0 (done e) in record { sized = s; whole = l; good = g }
+
+  pub writes : Writes S cells old (numberedNo counted) (numberedBad counted) (numberedValue counted) (writeOut S cells old)
+  unfolding writeWritten
   writes =
       record {
-        size = λ n e.
-            let (d, same) = number-stands check (distance S) n e in
-            sym (file-size S cells (written-file S cells (length old) d .count) ∙ same);
-        written = λ n e. let (d, same) = number-stands check (distance S) n e in rw (d, same);
-        a-file = λ n e. written-file S cells (length old) (number-stands check (distance S) n e .0);
-        refused = λ r. (
-          λ e. write-why r (number-refused check (distance S) r .0 e),
-          λ why. not-written S cells (length old) r (write-refused S cells (length old) r why),
-        );
-        kept = λ r e. kept check r (writeWritten S cells old) old (number-refused check (distance S) r .0 e);
+        order = rw (values .0) (gives (writeChecks S cells (length old)) writing (write-decided S cells (length old)));
+        names-bad = rw (values .0, values .1) (write-bad S cells (length old));
+        size = λ e. counts e ∙ sym (file-size S cells (ordered e .whole));
+        written = λ e. rw (done e, counts e);
+        a-file = λ e. written-file S cells (ordered e);
+        nothing = λ n.
+            let (r, e) = refused-of writing (λ z. n (values .0 ∙ z)) in
+            (values .2 ∙ ap (λ (a : Answer). answerValue a (distance S)) e, kept writing r (writeWritten S cells old) old e);
       }
 
-never : (n : ℕ) (r : Refusal) → Number n ≡ NotNumbered r → ⊥
-never n r e = let z : _≡_ {A = ℕ} 0 1 = cc in absurd (omega arith)
-
-pub one-writing : (S : Sizes) (cells old : List ℕ) (a b : Numbered) (new other : List ℕ) → Writes S cells old a new → Writes S cells old b other
-    → (a ≡ b) × (new ≡ other)
-one-writing S cells old (Number n) (Number m) new other p q =
-    let same : n ≡ m = p .size n refl ∙ sym (q .size m refl) in
-    (ap Number same, p .written n refl ∙ ap (λ (k : ℕ). fileOf S cells ++ drop k old) same ∙ sym (q .written m refl))
-one-writing S cells old (Number n) (NotNumbered r) new other p q = absurd (never n r (p .refused r .1 (q .refused r .0 refl)))
-one-writing S cells old (NotNumbered r) b new other p q =
-    let same = q .refused r .1 (p .refused r .0 refl) in
-    (sym same, p .kept r refl ∙ sym (q .kept r same))
+pub one-writing : {S : Sizes} {cells old : List ℕ} {r b n r′ b′ n′ : ℕ} {new new′ : List ℕ}
+    → Writes S cells old r b n new → Writes S cells old r′ b′ n′ new′
+    → (r ≡ r′) × (b ≡ b′) × (n ≡ n′) × (new ≡ new′)
+one-writing {S} {cells} {old} {r} {b} {n} {r′} {b′} {n′} {new} {new′} p q =
+    let same = one-number (writeChecks S cells (length old)) r r′ (p .order) (q .order) in
+    let cell = one-bad (p .names-bad) (subst (λ (n : ℕ). NamesBad S cells n b′) (sym same) (q .names-bad)) in
+    let rest : (n ≡ n′) × (new ≡ new′) = elim (zero-or-not r) [
+      | inl e ↦
+          let e′ = sym same ∙ e in
+          let size : n ≡ n′ = p .size e ∙ sym (q .size e′) in
+          (size, p .written e ∙ ap (λ (k : ℕ). fileOf S cells ++ drop k old) size ∙ sym (q .written e′))
+      | inr z ↦
+          let a = p .nothing z in
+          let b = q .nothing (λ e. z (same ∙ e)) in
+          (a .0 ∙ sym (b .0), a .1 ∙ sym (b .1))
+    ] in
+    (same, cell, rest .0, rest .1)
 
 -- ---- "reading gives back what was written": the bytes written, as many as the writer says, read into any room that holds the cells
 
-pub gives-back : (S : Sizes) (cells old new : List ℕ) (n : ℕ) → Writes S cells old (Number n) new
-    → (room : List ℕ) (answer : MapRead) (out : List ℕ) → Reads (take n new) room answer out → nodes S ≤ length room
-    → (answer ≡ Read S) × (out ≡ cells ++ drop (nodes S) room)
-gives-back S cells old new n w room answer out p h =
-    let front : take n new ≡ fileOf S cells = ap (take n) (w .written n refl) ∙ take-at (fileOf S cells) (drop n old) n (sym (w .size n refl)) in
-    let f = subst (MapFile S cells) (sym front) (w .a-file n refl) in
-    (p .read S .1 (cells, f, h), p .given f h)
+pub gives-back : {S : Sizes} {cells old new : List ℕ} {r b n : ℕ} → Writes S cells old r b n new → r ≡ 0
+    → {room out : List ℕ} {refusal bad w h d : ℕ} → Reads (take n new) room refusal bad w h d out → nodes S ≤ length room
+    → (refusal ≡ 0) × (w ≡ S .w) × (h ≡ S .h) × (d ≡ S .d) × (out ≡ cells ++ drop (nodes S) room)
+gives-back {S} {cells} {old} {new} {n = n} p e q l =
+    let front : take n new ≡ fileOf S cells = ap (take n) (p .written e) ∙ take-at (fileOf S cells) (drop n old) n (sym (p .size e)) in
+    let f = subst (MapFile S cells) (sym front) (p .a-file e) in
+    let z = q .read .1 (S, cells, f, l) in
+    let a = q .given z f in
+    (z, a .0, a .1, a .2, a .3)

@@ -9,7 +9,7 @@ use Rattle.mesh.specs.declared.Sizes.{Sizes}
 use Rattle.mesh.specs.declared.Answer.the-variants.{Done}
 use Rattle.mesh.proofs.Answers.{map-granted}
 use Rattle.format.specs.Format.{sizesIn, cellsIn}
-use Rattle.format.specs.Entry.{readCheck, readAnswer, readOut}
+use Rattle.format.specs.Entry.{mapReadNo, mapReadSizes, readCheck, readAnswer, readOut}
 use Rattle.format.specs.declared.MapRead.{MapRead}
 use Rattle.format.specs.declared.MapRead.the-variants.{Read}
 use Rattle.format.proofs.Refusals.{read-ordered, read-front}
@@ -18,7 +18,7 @@ use Rattle.format.proofs.Reading.{read-as}
 module _ (file : List ℕ) (room : ℕ) (S : Sizes) (is : readAnswer file room ≡ Read S) where
   granted : (readCheck file room ≡ Done) × (sizesIn file ≡ S)
   unfolding readAnswer
-  granted = read-as (readCheck file room) (sizesIn file) S .0 is
+  granted = read-as (readCheck file room) (sizesIn file) S .0 (ap mapReadNo is, ap mapReadSizes is)
 
   in-order : checkMap S (cellsIn file) ≡ Done
   in-order = subst (λ (Z : Sizes). checkMap Z (cellsIn file) ≡ Done) (granted .1) (read-ordered file room (granted .0))

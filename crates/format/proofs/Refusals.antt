@@ -1,5 +1,5 @@
 -- Which refusal stands, check by check, and what the checks before it have granted. Assumes nothing.
-use mathlib.Core.Path.{_≡_, sym, _∙_}
+use mathlib.Core.Path.{_≡_}
 use mathlib.Core.Bool.{Bool, true, false, _&&_}
 use mathlib.Core.List.{List}
 use Prim.Native.Nat.{ℕ, _+_, _-_, _≤_, _<_}
@@ -11,18 +11,20 @@ use lib.Seq.{take-at}
 use Rattle.mesh.specs.Tools.{between}
 use Rattle.mesh.specs.Mesh.{inRange, InRange, nodes}
 use Rattle.mesh.specs.Answers.{unless, checkMap}
+use Rattle.mesh.specs.Order.{mapChecks}
 use Rattle.mesh.specs.declared.Sizes.{Sizes}
 use Rattle.mesh.specs.declared.Refusal.{Refusal}
 use Rattle.mesh.specs.declared.Refusal.the-variants.{BadSizes, NoRoom, BadFile}
 use Rattle.mesh.specs.declared.Answer.the-variants.{Done, Refused}
 use Rattle.mesh.specs.declared.Numbered.the-variants.{Number, NotNumbered}
 use Rattle.mesh.proofs.Answers.{sizes-is}
-use Rattle.mesh.proofs.Tests.{T-and, T-eq, T-le, holds-true}
+use Rattle.mesh.proofs.Tests.{T-and, T-le, holds-true}
+use Rattle.mesh.proofs.Order.{map-decided}
 use Rattle.format.specs.Format.{fileLimit, distance, trailerAt, hasMark, sizesIn, distanceIn, cellsIn}
 use Rattle.format.specs.Entry.{checkFrame, checkTrailer, readCheck, readAnswer, readWritten, readOut}
 use Rattle.format.specs.Entry.{writeCheck, writeAnswer}
 use Rattle.format.specs.declared.MapRead.the-variants.{Read, NotRead}
-use Rattle.format.proofs.Checks.{both-done, unless-done, sizes-done}
+use Rattle.format.proofs.Order.{all-pass, frame-passes, trailer-passes, read-passes, write-passes}
 
 pub between-least : (a b n : ℕ) → between a b n ≡ true → a ≤ n
 between-least a b n e = let (l, m) = simp (T-and, T-le) at (holds-true (between a b n) .1 e) in l
@@ -40,8 +42,7 @@ module _ (file : List ℕ) where
   frame-inside l b e = rw (l, e)
 
   pub frame-least : checkFrame file ≡ Done → 12 ≤ length file
-  unfolding checkFrame
-  frame-least e = let ((l, m), q) = simp (both-done, unless-done, T-and, T-le, T-eq) at e in l
+  frame-least e = frame-passes file .0 e .0 .least
 
   -- ---- after these the sizes, and the distance
 
@@ -61,8 +62,7 @@ module _ (file : List ℕ) where
 
   -- what has been granted then
   pub trailer-says : checkTrailer file ≡ Done → (12 ≤ length file) × InRange (sizesIn file) × (distance (sizesIn file) ≤ length file)
-  unfolding checkTrailer
-  trailer-says e = let ((f, s), (d, l)) = simp (both-done, sizes-done, unless-done, T-and, T-le, T-eq) at e in (frame-least f, s, l)
+  trailer-says e = let (f, (s, (r, _))) = trailer-passes file .0 e in (f .least, s, r .inside)
 
   -- ---- after these the room, and the cells
 
@@ -102,15 +102,18 @@ module _ (file : List ℕ) where
 
   -- what is read is in order, and stands in front
   pub read-ordered : (room : ℕ) → readCheck file room ≡ Done → checkMap (sizesIn file) (cellsIn file) ≡ Done
-  unfolding readCheck
-  read-ordered room e = let ((t, r), c) = simp (both-done, unless-done, T-le) at e in sym (read-cells room t r) ∙ e
+  read-ordered room e =
+      let (f, (s, (r, (h, (g, _))))) = read-passes file room .0 e in
+      let S = sizesIn file in
+      let cells = cellsIn file in
+      all-pass (mapChecks S cells) (checkMap S cells) tt (map-decided S cells) .1 (s, (cells-size (r .inside), (g, tt)))
 
   pub read-front : (out : List ℕ) → readCheck file (length out) ≡ Done → take (nodes (sizesIn file)) (readOut file out) ≡ cellsIn file
-  unfolding readWritten readCheck
+  unfolding readWritten
   read-front out e =
-      let (t, r) = simp both-done at e in
+      let (f, (s, (r, _))) = read-passes file (length out) .0 e in
       let n = nodes (sizesIn file) in
-      rw e (take-at (cellsIn file) (drop n out) n (cells-size (trailer-says (t .0) .2)))
+      rw e (take-at (cellsIn file) (drop n out) n (cells-size (r .inside)))
 
 -- ---- writing: the map, and the room
 
@@ -136,5 +139,4 @@ module _ (S : Sizes) (cells : List ℕ) (room : ℕ) where
   is-written e = rw e
 
   pub write-says : writeCheck S cells room ≡ Done → InRange S × (length cells ≡ nodes S) × (distance S ≤ room)
-  unfolding writeCheck checkMap
-  write-says e = let (((s, l), g), r) = simp (both-done, sizes-done, unless-done, T-eq, T-le) at e in (s, l, r)
+  write-says e = let (s, (l, (g, (r, _)))) = write-passes S cells room .0 e in (s, l, r)

@@ -5,14 +5,10 @@ use Prim.Native.Nat.{ℕ, _+_}
 use native.Mathlib.Omega.{arith}
 use lib.ListN.{length, length-append}
 use Rattle.mesh.specs.Mesh.{nodes}
-use Rattle.mesh.specs.Answers.{checkMap}
+use Rattle.mesh.specs.Order.{InOrder}
 use Rattle.mesh.specs.declared.Sizes.{Sizes}
-use Rattle.mesh.specs.declared.Answer.the-variants.{Done}
-use Rattle.mesh.proofs.Tests.{T-eq, T-le}
 use Rattle.mesh.proofs.Numbers.{nodes-le}
 use Rattle.format.specs.Format.{distance, trailer, fileOf, MapFile}
-use Rattle.format.specs.Entry.{writeCheck}
-use Rattle.format.proofs.Checks.{both-done, unless-done, sizes-done, cells-done}
 
 module _ (S : Sizes) (cells : List ℕ) where
   -- of N + 12 bytes
@@ -20,15 +16,11 @@ module _ (S : Sizes) (cells : List ℕ) where
   unfolding trailer
   file-size whole = length-append cells (trailer S) ∙ ap (λ (n : ℕ). n + 12) whole
 
-  pub written-file : (room : ℕ) → writeCheck S cells room ≡ Done → MapFile S cells (fileOf S cells)
-  unfolding writeCheck checkMap
-  written-file room e =
-      let (((sized, whole), good), holds) = simp (both-done, sizes-done, cells-done, unless-done, T-eq, T-le) at e in
+  pub written-file : InOrder S cells → MapFile S cells (fileOf S cells)
+  written-file m =
       record {
         notes = [];
         parts = refl;
-        fits = omega (arith, file-size whole, nodes-le S sized);
-        in-range = sized;
-        count = whole;
-        good = λ k h. good k (omega (arith, whole));
+        fits = omega (arith, file-size (m .whole), nodes-le S (m .sized));
+        in-order = m;
       }

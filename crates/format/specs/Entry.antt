@@ -5,8 +5,8 @@ use Prim.Native.Nat.{ℕ}
 use lib.ListN.{length, drop}
 use lib.Dec.{eqb, leb}
 use Rattle.mesh.specs.Tools.{between}
-use Rattle.mesh.specs.Mesh.{nodes}
-use Rattle.mesh.specs.Answers.{granted, numbered, _andThen_, unless, checkSizes, checkCells, checkMap, checkRoom}
+use Rattle.mesh.specs.Mesh.{sizes, nodes}
+use Rattle.mesh.specs.Answers.{refusalNo, refusalBad, granted, numbered, _andThen_, unless, checkSizes, checkCells, checkMap, checkRoom}
 use Rattle.mesh.specs.declared.Sizes.{Sizes}
 use Rattle.mesh.specs.declared.Refusal.the-variants.{BadFile}
 use Rattle.mesh.specs.declared.Answer.{Answer}
@@ -20,6 +20,19 @@ use Rattle.format.specs.declared.MapRead.the-variants.{Read, NotRead}
 abbrev pub mapRead : Answer → Sizes → MapRead
 mapRead Done S = Read S
 mapRead (Refused r) S = NotRead r
+
+-- the number and values of such an answer
+abbrev pub mapReadNo : MapRead → ℕ
+mapReadNo (Read S) = 0
+mapReadNo (NotRead r) = refusalNo r
+
+abbrev pub mapReadBad : MapRead → ℕ
+mapReadBad (Read S) = 0
+mapReadBad (NotRead r) = refusalBad r
+
+abbrev pub mapReadSizes : MapRead → Sizes
+mapReadSizes (Read S) = S
+mapReadSizes (NotRead r) = sizes 0 0 0
 
 -- "Reading a file: length, mark and zero byte (11), sizes (1), distance not N + 12 or beyond the file (11), room (3), cells (4)."
 unfoldable pub checkFrame : List ℕ → Answer

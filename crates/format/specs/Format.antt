@@ -1,13 +1,13 @@
 -- 01, "Map file": the bytes of a file, as written and as read. Assumes nothing.
-use mathlib.Core.Bool.{Bool, not}
+use mathlib.Core.Bool.{Bool}
 use mathlib.Core.List.{List, [], _∷_, _++_}
 use mathlib.Core.Path.{_≡_}
-use Prim.Native.Nat.{ℕ, _+_, _-_, _*_, _/_, _%_, _<_, _≤_}
+use Prim.Native.Nat.{ℕ, _+_, _-_, _*_, _/_, _%_, _≤_}
 use lib.ListN.{length, getD, take, drop}
-use lib.Dec.{T, eqb}
+use lib.Dec.{eqb}
 use Rattle.mesh.specs.Tools.{all}
-use Rattle.mesh.specs.Mesh.{sizes, InRange, nodes}
-use Rattle.mesh.specs.Cells.{badCell}
+use Rattle.mesh.specs.Mesh.{sizes, nodes}
+use Rattle.mesh.specs.Order.{InOrder}
 use Rattle.mesh.specs.declared.Sizes.{Sizes}
 
 -- "the four bytes 46 4C 44 31 hexadecimal"
@@ -48,9 +48,7 @@ pub record MapFile (S : Sizes) (cells file : List ℕ) : Type 0 where
   pub notes : List ℕ
   pub parts : file ≡ notes ++ fileOf S cells
   pub fits : length file ≤ fileLimit
-  pub in-range : InRange S
-  pub count : length cells ≡ nodes S
-  pub good : (k : ℕ) → k < nodes S → T (not (badCell S k (getD cells k 0)))
+  pub in-order : InOrder S cells
 
 -- What a reader sees: byte i of the trailer, and what it says.
 abbrev pub trailerAt : List ℕ → ℕ → ℕ

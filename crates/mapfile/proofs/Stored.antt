@@ -11,8 +11,8 @@ use Rattle.mesh.specs.declared.Sizes.{Sizes}
 use Rattle.mesh.specs.declared.Answer.the-variants.{Done}
 use Rattle.format.specs.Format.{distance, trailer, cellsIn}
 use Rattle.format.specs.Entry.{readCheck, readWritten, readOut, writeCheck, writeWritten, writeOut}
-use Rattle.format.proofs.Checks.{both-done}
-use Rattle.format.proofs.Refusals.{trailer-says, cells-size, write-says}
+use Rattle.format.proofs.Order.{read-passes}
+use Rattle.format.proofs.Refusals.{cells-size, write-says}
 use Rattle.mapfile.specs.Stored.{stored}
 
 module _ (out : List ℕ) (at : ℕ) (bytes : List ℕ) (fits : at + length bytes ≤ length out) where
@@ -46,10 +46,10 @@ stored-front out bytes = ap (λ (n : ℕ). bytes ++ drop n out) (zero-add (lengt
 
 -- what is stored is what the answer says
 pub read-stored : (file out : List ℕ) → readCheck file (length out) ≡ Done → stored out 0 (cellsIn file) ≡ readOut file out
-unfolding readWritten readCheck
+unfolding readWritten
 read-stored file out e =
-    let (t, r) = simp both-done at e in
-    rw e (stored-front out (cellsIn file) ∙ ap (λ (n : ℕ). cellsIn file ++ drop n out) (cells-size file (trailer-says file (t .0) .2)))
+    let (f, (s, (r, _))) = read-passes file (length out) .0 e in
+    rw e (stored-front out (cellsIn file) ∙ ap (λ (n : ℕ). cellsIn file ++ drop n out) (cells-size file (r .inside)))
 
 pub write-stored : (S : Sizes) (cells out : List ℕ) → writeCheck S cells (length out) ≡ Done
     → stored (stored out 0 cells) (nodes S) (trailer S) ≡ writeOut S cells out

@@ -5,7 +5,7 @@ use Prim.Native.Nat.{ℕ, _+_}
 use borrow.Author.Tests.{not-true, not-false}
 use borrow.Author.Needs.{needs}
 use denote.Ref.{now}
-use Rattle.mesh.specs.Mesh.{inRange, nodes}
+use Rattle.mesh.specs.Mesh.{inRange}
 use Rattle.mesh.specs.declared.Answer.the-variants.{Done}
 use Rattle.mesh.proofs.Answers.{sizes-of}
 use Rattle.format.specs.Format.{distance, sizesIn}

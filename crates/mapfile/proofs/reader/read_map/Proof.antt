@@ -5,12 +5,14 @@ use borrow.Author.Needs.{needs}
 use denote.Ref.{now}
 use lib.ListN.{length}
 use Rattle.mesh.specs.Mesh.{nodes}
+use Rattle.mesh.specs.Order.{AllPass}
 use Rattle.mesh.specs.declared.Answer.the-variants.{Done}
 use Rattle.mesh.proofs.Answers.{kept}
 use Rattle.format.specs.declared.MapRead.the-variants.{Read}
 use Rattle.format.specs.Format.{sizesIn}
 use Rattle.format.specs.Entry.{readCheck, readWritten}
-use Rattle.format.proofs.Reading.{Granted, T-granted}
+use Rattle.format.specs.Promise.{readChecks}
+use Rattle.format.proofs.Order.{read-passes}
 use Rattle.format.proofs.Refusals.{not-read, is-read, cells-part, cells-size}
 use Rattle.mapfile.specs.Stored.{stored}
 use Rattle.mapfile.proofs.Stored.{read-stored}
@@ -22,8 +24,9 @@ done : (c : tie.After-enum-told) →
     let a = c .before .before .before .before .before .args in readCheck (now (a .file)) (length (now (a .cells))) ≡ Done
 done c = sym (c .before .before .check-file .ensures) ∙ c .enum-told .given .1
 
-granted : (c : tie.After-enum-told) → let a = c .before .before .before .before .before .args in Granted (now (a .file)) (length (now (a .cells)))
-granted c = let a = c .before .before .before .before .before .args in T-granted (now (a .file)) (length (now (a .cells))) .0 (done c)
+passed : (c : tie.After-enum-told) →
+    let a = c .before .before .before .before .before .args in AllPass (readChecks (now (a .file)) (length (now (a .cells))))
+passed c = let a = c .before .before .before .before .before .args in read-passes (now (a .file)) (length (now (a .cells))) .0 (done c)
 
 -- as many nodes as the trailer says
 count-is : (c : tie.After-nodes) → c .nodes .result ≡ nodes (sizesIn (now (c .before .before .before .before .before .before .before .args .file)))
@@ -40,22 +43,22 @@ returns c =
     )
 
 sizes-in-requires : tie.Need-sizes-in-requires
-sizes-in-requires c κs = granted c .least
+sizes-in-requires c κs = passed c .0 .least
 
 nodes-requires : tie.Need-nodes-requires
-nodes-requires c κs = rw (c .sizes-in .ensures) (granted (c .before) .in-range)
+nodes-requires c κs = let (f, (s, _)) = passed (c .before) in rw (c .sizes-in .ensures) s
 
 cells-in-requires : tie.Need-cells-in-requires
-cells-in-requires c κs = rw (count-is c) (granted (c .before .before) .inside)
+cells-in-requires c κs = let (f, (s, (r, _))) = passed (c .before .before) in rw (count-is c) (r .inside)
 
 put-requires : tie.Need-put-requires
 put-requires c κs =
     let past = c .before .before in
     let a = past .before .before .before .before .before .before .before .args in
     let file = now (a .file) in
-    let g = granted (past .before .before) in
+    let (f, (s, (r, (h, _)))) = passed (past .before .before) in
     let e = ap length (c .before .cells-in .ensures ∙ cells-part file (past .nodes .result) (count-is past)) in
-    omega (arith, e, cells-size file (g .inside), g .holds)
+    omega (arith, e, h, cells-size file (r .inside))
 
 returns-2 : tie.Need-returns-2
 returns-2 c =

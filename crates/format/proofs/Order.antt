@@ -1,0 +1,154 @@
+-- The checks of reading and of writing decide their answers in the order of the promise, and name the first bad cell. Assumes nothing.
+use mathlib.Core.Path.{_≡_, refl, sym, ap, _∙_}
+use mathlib.Core.Logic.{_↔_, _≢_, inl, inr}
+use mathlib.Core.Bool.{Bool, true, false, _&&_}
+use mathlib.Core.List.{List, [], _∷_, _++_}
+use Prim.Native.Nat.{ℕ, _≤_, _<_}
+use native.Mathlib.Nat.{lt-of-not-le}
+use native.Mathlib.Omega.{arith}
+use lib.Dec.{T, eqb, leb}
+use lib.ListN.{length, getD}
+use Rattle.mesh.specs.Tools.{between}
+use Rattle.mesh.specs.Mesh.{inRange, InRange, nodes}
+use Rattle.mesh.specs.Cells.{badCell}
+use Rattle.mesh.specs.Answers.{refusalNo, refusalBad, answerNo, answerBad, _andThen_, unless, checkSizes, checkCells, checkMap, checkRoom}
+use Rattle.mesh.specs.Order.{Check, _else_, AllPass, NoneBad, FirstBad, mapChecks, NamesBad}
+use Rattle.mesh.specs.declared.Sizes.{Sizes}
+use Rattle.mesh.specs.declared.Refusal.{Refusal}
+use Rattle.mesh.specs.declared.Refusal.the-variants.{BadSizes, NoRoom, BadFile}
+use Rattle.mesh.specs.declared.Answer.{Answer}
+use Rattle.mesh.specs.declared.Answer.the-variants.{Done}
+use Rattle.mesh.proofs.Tests.{T-and, T-no, T-eq, T-le, T-all, tried}
+use Rattle.mesh.proofs.Order.{unused, passes, _decide_, gives, decides-then, decides-by, sizes-decided, room-decided, cells-decided, map-decided}
+use Rattle.mesh.proofs.Order.{bad-then, bad-unless, bad-cells, bad-map, done-of}
+use Rattle.format.specs.Format.{trailerLength, fileLimit, distance, trailerAt, hasMark, sizesIn, distanceIn, cellsIn}
+use Rattle.format.specs.Entry.{checkFrame, checkTrailer, readCheck, writeCheck}
+use Rattle.format.specs.Promise.{Framed, Reaches, readChecks, writeChecks}
+
+-- ---- of any checks
+
+-- an answer grants exactly if all of its checks pass
+pub all-pass : (cs : List Check) (a : Answer) → T (unused 0 cs) → cs decide a → (a ≡ Done) ↔ AllPass cs
+all-pass cs a t d = let (f, g) = passes cs (answerNo a) t (gives cs a d) in (λ e. f (ap answerNo e), λ p. done-of a (g p))
+
+-- two tests of one refusal are one test
+both : (a b : Bool) (r : Refusal) → unless a r andThen unless b r ≡ unless (a && b) r
+both true b r = refl
+both false b r = refl
+
+-- the bad cell that an answer names is one
+module _ {S : Sizes} {cells : List ℕ} where
+  not-before : {a b : ℕ} → FirstBad S cells a → FirstBad S cells b → a < b → ⊥
+  not-before {a} f g h = T-no (badCell S a (getD cells a 0)) .0 (g .none-before a h) (f .bad)
+
+  pub one-bad : {n a b : ℕ} → NamesBad S cells n a → NamesBad S cells n b → a ≡ b
+  one-bad {n} {a} {b} p q = elim (tried (eqb n 4)) [
+    | inl t ↦
+        let f = p .0 (T-eq n 4 .0 t) in
+        let g = q .0 (T-eq n 4 .0 t) in
+        omega (arith, lt-of-not-le (not-before f g), lt-of-not-le (not-before g f))
+    | inr t ↦ let no : n ≢ 4 = λ e. T-no (eqb n 4) .0 t (T-eq n 4 .1 e) in p .1 no ∙ sym (q .1 no)
+  ]
+
+-- ---- reading
+
+module _ (file : List ℕ) where
+  abbrev S : Sizes
+  S = sizesIn file
+
+  abbrev long : Bool
+  long = between trailerLength fileLimit (length file)
+
+  abbrev marked : Bool
+  marked = hasMark file && eqb (trailerAt file 3) 0
+
+  abbrev reaches : Bool
+  reaches = eqb (distanceIn file) (distance S) && leb (distance S) (length file)
+
+  pub frame-decided : Framed file else 11 ∷ [] decide checkFrame file
+  unfolding checkFrame hasMark
+  frame-decided =
+      rw (both long marked BadFile)
+      (decides-by (long && marked) BadFile (
+        λ t. let ((l, f), (m, z)) = simp (T-and, T-all, T-le, T-eq) at t in record { least = l; fits = f; mark = m; zero-byte = z },
+        λ f. simp (T-and, T-all, T-le, T-eq) ((f .least, f .fits), (f .mark, f .zero-byte)),
+      ))
+
+  reach-decided : Reaches file else 11 ∷ [] decide unless reaches BadFile
+  reach-decided = decides-by reaches BadFile (
+    λ t. let (e, l) = simp (T-and, T-eq, T-le) at t in record { says = e; inside = l },
+    λ r. simp (T-and, T-eq, T-le) (r .says, r .inside),
+  )
+
+  abbrev trailerChecks : List Check
+  trailerChecks = Framed file else 11 ∷ InRange S else 1 ∷ Reaches file else 11 ∷ []
+
+  trailer-decided : trailerChecks decide checkTrailer file
+  unfolding checkTrailer
+  trailer-decided =
+      decides-then (Framed file else 11 ∷ InRange S else 1 ∷ []) (Reaches file else 11 ∷ [])
+      (checkFrame file andThen checkSizes S) (unless reaches BadFile)
+      (decides-then (Framed file else 11 ∷ []) (InRange S else 1 ∷ []) (checkFrame file) (checkSizes S) frame-decided (sizes-decided S))
+      reach-decided
+
+  pub read-decided : (room : ℕ) → readChecks file room decide readCheck file room
+  unfolding readCheck
+  read-decided room =
+      let roomy = checkRoom (nodes S) room in
+      decides-then (trailerChecks ++ (nodes S ≤ room) else 3 ∷ []) (NoneBad S (cellsIn file) else 4 ∷ [])
+      (checkTrailer file andThen roomy) (checkCells S (cellsIn file))
+      (decides-then trailerChecks ((nodes S ≤ room) else 3 ∷ []) (checkTrailer file) roomy trailer-decided (room-decided (nodes S) room))
+      (cells-decided S (cellsIn file))
+
+  -- granted exactly if all pass
+  pub frame-passes : (checkFrame file ≡ Done) ↔ AllPass (Framed file else 11 ∷ [])
+  frame-passes = all-pass (Framed file else 11 ∷ []) (checkFrame file) tt frame-decided
+
+  pub trailer-passes : (checkTrailer file ≡ Done) ↔ AllPass trailerChecks
+  trailer-passes = all-pass trailerChecks (checkTrailer file) tt trailer-decided
+
+  pub read-passes : (room : ℕ) → (readCheck file room ≡ Done) ↔ AllPass (readChecks file room)
+  read-passes room = all-pass (readChecks file room) (readCheck file room) tt (read-decided room)
+
+  -- none of the checks before the cells names one
+  no-cell : (t : Bool) (r : Refusal) → refusalNo r ≢ 4 → refusalBad r ≡ 0
+      → NamesBad S (cellsIn file) (answerNo (unless t r)) (answerBad (unless t r))
+  no-cell = bad-unless S (cellsIn file)
+
+  pub read-bad : (room : ℕ) → NamesBad S (cellsIn file) (answerNo (readCheck file room)) (answerBad (readCheck file room))
+  unfolding readCheck checkTrailer checkFrame
+  read-bad room =
+      let cells = cellsIn file in
+      let first = unless long BadFile in
+      let frame = first andThen unless marked BadFile in
+      let sized = frame andThen checkSizes S in
+      let reached = sized andThen unless reaches BadFile in
+      bad-then S cells (reached andThen checkRoom (nodes S) room) (checkCells S cells)
+      (bad-then S cells reached (checkRoom (nodes S) room)
+      (bad-then S cells sized (unless reaches BadFile)
+      (bad-then S cells frame (checkSizes S)
+      (bad-then S cells first (unless marked BadFile)
+      (no-cell long BadFile (λ z. omega arith) refl)
+      (no-cell marked BadFile (λ z. omega arith) refl))
+      (no-cell (inRange S) BadSizes (λ z. omega arith) refl))
+      (no-cell reaches BadFile (λ z. omega arith) refl))
+      (no-cell (leb (nodes S) room) NoRoom (λ z. omega arith) refl))
+      (bad-cells S cells)
+
+-- ---- writing
+
+module _ (S : Sizes) (cells : List ℕ) (room : ℕ) where
+  pub write-decided : writeChecks S cells room decide writeCheck S cells room
+  unfolding writeCheck
+  write-decided =
+      decides-then (mapChecks S cells) ((distance S ≤ room) else 3 ∷ []) (checkMap S cells) (checkRoom (distance S) room)
+      (map-decided S cells) (room-decided (distance S) room)
+
+  pub write-passes : (writeCheck S cells room ≡ Done) ↔ AllPass (writeChecks S cells room)
+  write-passes = all-pass (writeChecks S cells room) (writeCheck S cells room) tt write-decided
+
+  pub write-bad : NamesBad S cells (answerNo (writeCheck S cells room)) (answerBad (writeCheck S cells room))
+  unfolding writeCheck
+  write-bad =
+      bad-then S cells (checkMap S cells) (checkRoom (distance S) room) (bad-map S cells)
+      (bad-unless S cells (leb (distance S) room) NoRoom (λ z. omega arith) refl)
