@@ -15,12 +15,14 @@ use Rattle.touching.specs.Call.{ComponentsPromise}
 use Rattle.touching.specs.declared.Component.{Component}
 use Rattle.paths.specs.Promise.{VerdictPromise, RoutePromise, ReachedPromise}
 use Rattle.talk.specs.Calls.{FreshCall, SoundCall, OutstandingCall, HearCall}
+use Rattle.format.specs.Promise.{Reads, Writes}
 use Rattle.answers.specs.declared.NodeAnswer.{NodeAnswer}
 use Rattle.answers.specs.declared.PlaceAnswer.{PlaceAnswer}
 use Rattle.answers.specs.declared.StepAnswer.{StepAnswer}
 use Rattle.answers.specs.declared.DoneAnswer.{DoneAnswer}
 use Rattle.answers.specs.declared.CountedAnswer.{CountedAnswer}
 use Rattle.answers.specs.declared.VerdictAnswer.{VerdictAnswer}
+use Rattle.answers.specs.declared.MapAnswer.{MapAnswer}
 
 -- ---- places (mesh/specs/Promise.antt)
 
@@ -91,5 +93,12 @@ abbrev pub dk-hear : (w h d orientation listener direction word : ℕ) (state : 
 dk-hear w h d orientation listener direction word state answer new =
     HearCall (sizes w h d) orientation listener direction word state (answer .refusal) (answer .bad) new
 
+-- ---- map files (format/specs/Promise.antt)
 
+-- Refused by 11, 1, 11, 3, 4. Else the file is one of a map, whose sizes are `w`, `h`, `d` and whose cells stand in front.
+abbrev pub dk-read-map : (file cells : List ℕ) → MapAnswer → List ℕ → Type 0
+dk-read-map file cells answer new = Reads file cells (answer .refusal) (answer .bad) (answer .w) (answer .h) (answer .d) new
 
+-- Refused by 1, 2, 4, 3. Else `count` bytes stand in front, a file of the map without notes.
+abbrev pub dk-write-map : (w h d : ℕ) (cells out : List ℕ) → CountedAnswer → List ℕ → Type 0
+dk-write-map w h d cells out answer new = Writes (sizes w h d) cells out (answer .refusal) (answer .bad) (answer .count) new

@@ -8,12 +8,11 @@ use mesh::Refusal;
 use mesh::Sizes;
 use paths::Verdict;
 ghost use mathlib.Core.Path.{_≡_};
-ghost use Prim.Native.Nat.{_≤_};
 ghost use Rattle.mesh.specs.Mesh.{sizes, place};
 ghost use Rattle.mesh.specs.Answers.{refusalBad, answerBad};
 ghost use Rattle.mesh.specs.declared.Answer.the-variants.{Refused};
 ghost use Rattle.mesh.specs.declared.Placed.the-variants.{Found};
-ghost use Rattle.answers.specs.Fields.{nodeFields, PlaceFits, PlacedFits, placeFields, doneFields, NumberedFits, countedFields, VerdictFits, verdictFields, MapFits, mapFields};
+ghost use Rattle.answers.specs.Fields.{Fits, nodeFields, PlaceFits, PlacedFits, placeFields, doneFields, NumberedFits, countedFields, VerdictFits, verdictFields, MapFits, mapFields};
 
 #[repr(C)]
 pub struct NodeAnswer {
@@ -142,7 +141,7 @@ pub fn place_fields(a: Placed) -> PlaceAnswer
 
 // The fields of a refusal: its number, and the first bad cell or 0.
 fn refused(r: Refusal) -> DoneAnswer
-    requires { ⌜ refusalBad r ≤ 65536 ⌝ }
+    requires { ⌜ Fits (refusalBad r) ⌝ }
     ensures { λ a. ⌜ a ≡ doneFields (Refused r) ⌝ }
 {
     let refusal = r.number();
@@ -155,7 +154,7 @@ fn refused(r: Refusal) -> DoneAnswer
 
 // The fields of an answer without a value.
 pub fn done_fields(a: Answer) -> DoneAnswer
-    requires { ⌜ answerBad a ≤ 65536 ⌝ }
+    requires { ⌜ Fits (answerBad a) ⌝ }
     ensures { λ r. ⌜ r ≡ doneFields a ⌝ }
 {
     match a {

@@ -23,7 +23,7 @@ module _ {file old : List ℕ} {r b w h d : ℕ} {new : List ℕ} (p : Reads fil
 -- the longest: notes of any kind, so many that the file of a map has 65,536 bytes
 pub longest : {S : Sizes} (notes cells : List ℕ) → InOrder S cells → length (notes ++ fileOf S cells) ≡ 65536
     → {old : List ℕ} {r b w h d : ℕ} {new : List ℕ} → Reads (notes ++ fileOf S cells) old r b w h d new → nodes S ≤ length old → r ≡ 0
-longest {S} notes cells m l p h = p .read .1 (S, cells, record { notes = notes; parts = refl; fits = omega arith; in-order = m }, h)
+longest {S} notes cells m l p h = p .read (record { notes = notes; parts = refl; fits = omega arith; in-order = m }) h
 
 -- the shortest: a trailer alone, which is looked at, so that wrong sizes are found
 trailer-framed : (S : Sizes) → Framed (trailer S)

@@ -1,54 +1,31 @@
 -- The checks of reading and of writing decide their answers in the order of the promise, and name the first bad cell. Assumes nothing.
-use mathlib.Core.Path.{_≡_, refl, sym, ap, _∙_}
-use mathlib.Core.Logic.{_↔_, _≢_, inl, inr}
+use mathlib.Core.Path.{_≡_, refl}
+use mathlib.Core.Logic.{_↔_, _≢_}
 use mathlib.Core.Bool.{Bool, true, false, _&&_}
 use mathlib.Core.List.{List, [], _∷_, _++_}
-use Prim.Native.Nat.{ℕ, _≤_, _<_}
-use native.Mathlib.Nat.{lt-of-not-le}
+use Prim.Native.Nat.{ℕ, _≤_}
 use native.Mathlib.Omega.{arith}
-use lib.Dec.{T, eqb, leb}
-use lib.ListN.{length, getD}
+use lib.Dec.{eqb, leb}
+use lib.ListN.{length}
 use Rattle.mesh.specs.Tools.{between}
 use Rattle.mesh.specs.Mesh.{inRange, InRange, nodes}
-use Rattle.mesh.specs.Cells.{badCell}
 use Rattle.mesh.specs.Answers.{refusalNo, refusalBad, answerNo, answerBad, _andThen_, unless, checkSizes, checkCells, checkMap, checkRoom}
-use Rattle.mesh.specs.Order.{Check, _else_, AllPass, NoneBad, FirstBad, mapChecks, NamesBad}
+use Rattle.mesh.specs.Order.{Check, _else_, AllPass, NoneBad, mapChecks, NamesBad}
 use Rattle.mesh.specs.declared.Sizes.{Sizes}
 use Rattle.mesh.specs.declared.Refusal.{Refusal}
 use Rattle.mesh.specs.declared.Refusal.the-variants.{BadSizes, NoRoom, BadFile}
-use Rattle.mesh.specs.declared.Answer.{Answer}
 use Rattle.mesh.specs.declared.Answer.the-variants.{Done}
-use Rattle.mesh.proofs.Tests.{T-and, T-no, T-eq, T-le, T-all, tried}
-use Rattle.mesh.proofs.Order.{unused, passes, _decide_, gives, decides-then, decides-by, sizes-decided, room-decided, cells-decided, map-decided}
-use Rattle.mesh.proofs.Order.{bad-then, bad-unless, bad-cells, bad-map, done-of}
+use Rattle.mesh.proofs.Tests.{T-and, T-eq, T-le, T-all}
+use Rattle.mesh.proofs.Order.{_decide_, all-pass, decides-then, decides-by, sizes-decided, room-decided, cells-decided, map-decided}
+use Rattle.mesh.proofs.Order.{bad-then, bad-unless, bad-cells, bad-map}
 use Rattle.format.specs.Format.{trailerLength, fileLimit, distance, trailerAt, hasMark, sizesIn, distanceIn, cellsIn}
 use Rattle.format.specs.Entry.{checkFrame, checkTrailer, readCheck, writeCheck}
 use Rattle.format.specs.Promise.{Framed, Reaches, readChecks, writeChecks}
-
--- ---- of any checks
-
--- an answer grants exactly if all of its checks pass
-pub all-pass : (cs : List Check) (a : Answer) → T (unused 0 cs) → cs decide a → (a ≡ Done) ↔ AllPass cs
-all-pass cs a t d = let (f, g) = passes cs (answerNo a) t (gives cs a d) in (λ e. f (ap answerNo e), λ p. done-of a (g p))
 
 -- two tests of one refusal are one test
 both : (a b : Bool) (r : Refusal) → unless a r andThen unless b r ≡ unless (a && b) r
 both true b r = refl
 both false b r = refl
-
--- the bad cell that an answer names is one
-module _ {S : Sizes} {cells : List ℕ} where
-  not-before : {a b : ℕ} → FirstBad S cells a → FirstBad S cells b → a < b → ⊥
-  not-before {a} f g h = T-no (badCell S a (getD cells a 0)) .0 (g .none-before a h) (f .bad)
-
-  pub one-bad : {n a b : ℕ} → NamesBad S cells n a → NamesBad S cells n b → a ≡ b
-  one-bad {n} {a} {b} p q = elim (tried (eqb n 4)) [
-    | inl t ↦
-        let f = p .0 (T-eq n 4 .0 t) in
-        let g = q .0 (T-eq n 4 .0 t) in
-        omega (arith, lt-of-not-le (not-before f g), lt-of-not-le (not-before g f))
-    | inr t ↦ let no : n ≢ 4 = λ e. T-no (eqb n 4) .0 t (T-eq n 4 .1 e) in p .1 no ∙ sym (q .1 no)
-  ]
 
 -- ---- reading
 
@@ -102,13 +79,13 @@ module _ (file : List ℕ) where
 
   -- granted exactly if all pass
   pub frame-passes : (checkFrame file ≡ Done) ↔ AllPass (Framed file else 11 ∷ [])
-  frame-passes = all-pass (Framed file else 11 ∷ []) (checkFrame file) tt frame-decided
+  frame-passes = all-pass (Framed file else 11 ∷ []) (checkFrame file) frame-decided
 
   pub trailer-passes : (checkTrailer file ≡ Done) ↔ AllPass trailerChecks
-  trailer-passes = all-pass trailerChecks (checkTrailer file) tt trailer-decided
+  trailer-passes = all-pass trailerChecks (checkTrailer file) trailer-decided
 
   pub read-passes : (room : ℕ) → (readCheck file room ≡ Done) ↔ AllPass (readChecks file room)
-  read-passes room = all-pass (readChecks file room) (readCheck file room) tt (read-decided room)
+  read-passes room = all-pass (readChecks file room) (readCheck file room) (read-decided room)
 
   -- none of the checks before the cells names one
   no-cell : (t : Bool) (r : Refusal) → refusalNo r ≢ 4 → refusalBad r ≡ 0
@@ -145,7 +122,7 @@ module _ (S : Sizes) (cells : List ℕ) (room : ℕ) where
       (map-decided S cells) (room-decided (distance S) room)
 
   pub write-passes : (writeCheck S cells room ≡ Done) ↔ AllPass (writeChecks S cells room)
-  write-passes = all-pass (writeChecks S cells room) (writeCheck S cells room) tt write-decided
+  write-passes = all-pass (writeChecks S cells room) (writeCheck S cells room) write-decided
 
   pub write-bad : NamesBad S cells (answerNo (writeCheck S cells room)) (answerBad (writeCheck S cells room))
   unfolding writeCheck

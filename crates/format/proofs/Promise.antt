@@ -1,11 +1,10 @@
 -- Reading and writing as defined keep the promise of map files, and nothing else does; reading gives back what was written.
 -- Assumes nothing.
 use mathlib.Core.Path.{_≡_, refl, sym, ap, _∙_, subst}
-use mathlib.Core.Logic.{_≢_, _⊎_, inl, inr}
+use mathlib.Core.Logic.{_≢_}
 use mathlib.Core.List.{List, _++_}
-use Prim.Native.Nat.{ℕ, _<_, _≤_}
-use lib.Dec.{eqb}
-use lib.ListN.{length, getD, take, drop}
+use Prim.Native.Nat.{ℕ, _≤_}
+use lib.ListN.{length, take, drop}
 use lib.Seq.{take-at}
 use Rattle.mesh.specs.Mesh.{nodes}
 use Rattle.mesh.specs.Answers.{answerNo, answerBad, answerValue, numberedNo, numberedBad, numberedValue}
@@ -14,21 +13,18 @@ use Rattle.mesh.specs.declared.Sizes.{Sizes}
 use Rattle.mesh.specs.declared.Answer.{Answer}
 use Rattle.mesh.specs.declared.Answer.the-variants.{Done, Refused}
 use Rattle.mesh.specs.declared.Numbered.{Numbered}
-use Rattle.mesh.proofs.Tests.{T-no, T-eq, tried}
 use Rattle.mesh.proofs.Answers.{kept}
-use Rattle.mesh.proofs.Order.{one-number, gives, done-of, refused-of, numbered-as}
+use native.Mathlib.Decide.{ℕ-discrete}
+use Rattle.mesh.proofs.Order.{bad-one, one-number, gives, done-of, refused-of, numbered-as}
 use Rattle.format.specs.Format.{distance, fileOf, MapFile, sizesIn, cellsIn}
 use Rattle.format.specs.Entry.{mapRead, mapReadNo, mapReadBad, mapReadSizes, readCheck, readAnswer, readWritten, readOut}
 use Rattle.format.specs.Entry.{writeCheck, writeAnswer, writeWritten, writeOut}
-use Rattle.format.specs.Promise.{readChecks, writeChecks, Reads, Writes}
+use Rattle.format.specs.Promise.{readChecks, writeChecks, Bytes, Reads, Writes}
 use Rattle.format.specs.declared.MapRead.{MapRead}
-use Rattle.format.proofs.Order.{read-decided, read-bad, write-decided, write-passes, write-bad, one-bad}
+use Rattle.format.proofs.Order.{read-decided, read-bad, write-decided, write-passes, write-bad}
 use Rattle.format.proofs.Refusals.{not-read, is-read}
 use Rattle.format.proofs.Reading.{file-sizes, file-granted, read-exactly, read-out}
 use Rattle.format.proofs.Writing.{file-size, written-file}
-
-zero-or-not : (n : ℕ) → (n ≡ 0) ⊎ (n ≢ 0)
-zero-or-not n = elim (tried (eqb n 0)) [ inl t ↦ inl (T-eq n 0 .0 t) | inr t ↦ inr (λ e. T-no (eqb n 0) .0 t (T-eq n 0 .1 e)) ]
 
 -- ---- reading
 
@@ -78,17 +74,15 @@ module _ (file old : List ℕ) where
       let q = each (ap mapReadSizes (not-read file (length old) r e)) in
       (q .0, q .1, q .2, kept reading r (readWritten file old) old e)
 
-  -- A file has bytes: that one which is read is a map file (`read`, from left to right) needs this, and nothing else does.
-  pub reads : ((i : ℕ) → getD file i 0 < 256)
-      → Reads file old (mapReadNo answer) (mapReadBad answer) (mapReadSizes answer .w) (mapReadSizes answer .h) (mapReadSizes answer .d) (readOut file old)
-  reads bytes =
+  pub reads : Reads file old (mapReadNo answer) (mapReadBad answer) (mapReadSizes answer .w) (mapReadSizes answer .h) (mapReadSizes answer .d) (readOut file old)
+  reads =
       record {
         order = read-order file (length old);
         names-bad = read-names-bad file (length old);
-        read = (
-          λ e. let (cells, f, h) = read-exactly file bytes (length old) (mapReadSizes answer) .0 (e, refl) in (mapReadSizes answer, cells, f, h),
-          λ q. read-file file (length old) (q .2) (q .3),
-        );
+        read = read-file file (length old);
+        of-a-map = λ bytes e.
+            let (cells, f, h) = read-exactly file bytes (length old) (mapReadSizes answer) .0 (e, refl) in
+            (mapReadSizes answer, cells, f, h);
         given = read-given;
         nothing = read-nothing;
       }
@@ -99,14 +93,14 @@ alike a b = (a .0 ∙ sym (b .0), a .1 ∙ sym (b .1), a .2 ∙ sym (b .2), a .3
 
 -- "Any two outcomes it allows are proved equal."
 pub one-reading : {file old : List ℕ} {r b w h d r′ b′ w′ h′ d′ : ℕ} {new new′ : List ℕ}
-    → Reads file old r b w h d new → Reads file old r′ b′ w′ h′ d′ new′
+    → Bytes file → Reads file old r b w h d new → Reads file old r′ b′ w′ h′ d′ new′
     → (r ≡ r′) × (b ≡ b′) × (w ≡ w′) × (h ≡ h′) × (d ≡ d′) × (new ≡ new′)
-one-reading {file} {old} {r} {b} {w} {h} {d} {r′} {b′} {w′} {h′} {d′} {new} {new′} p q =
+one-reading {file} {old} {r} {b} {w} {h} {d} {r′} {b′} {w′} {h′} {d′} {new} {new′} bytes p q =
     let same = one-number (readChecks file (length old)) r r′ (p .order) (q .order) in
-    let cell = one-bad (p .names-bad) (subst (λ (n : ℕ). NamesBad (sizesIn file) (cellsIn file) n b′) (sym same) (q .names-bad)) in
-    let rest : (w ≡ w′) × (h ≡ h′) × (d ≡ d′) × (new ≡ new′) = elim (zero-or-not r) [
-      | inl e ↦ let (S, cells, f, _) = p .read .0 e in alike (p .given e f) (q .given (sym same ∙ e) f)
-      | inr n ↦ alike (p .nothing n) (q .nothing (λ e. n (same ∙ e)))
+    let cell = bad-one (sizesIn file) (cellsIn file) r b b′ (p .names-bad) (rw same (q .names-bad)) in
+    let rest : (w ≡ w′) × (h ≡ h′) × (d ≡ d′) × (new ≡ new′) = elim (ℕ-discrete r 0) [
+      | yes e ↦ let (S, cells, f, _) = p .of-a-map bytes e in alike (p .given e f) (q .given (sym same ∙ e) f)
+      | no n ↦ alike (p .nothing n) (q .nothing (λ e. n (same ∙ e)))
     ] in
     (same, cell, rest .0, rest .1, rest .2, rest .3)
 
@@ -152,13 +146,13 @@ pub one-writing : {S : Sizes} {cells old : List ℕ} {r b n r′ b′ n′ : ℕ
     → (r ≡ r′) × (b ≡ b′) × (n ≡ n′) × (new ≡ new′)
 one-writing {S} {cells} {old} {r} {b} {n} {r′} {b′} {n′} {new} {new′} p q =
     let same = one-number (writeChecks S cells (length old)) r r′ (p .order) (q .order) in
-    let cell = one-bad (p .names-bad) (subst (λ (n : ℕ). NamesBad S cells n b′) (sym same) (q .names-bad)) in
-    let rest : (n ≡ n′) × (new ≡ new′) = elim (zero-or-not r) [
-      | inl e ↦
+    let cell = bad-one S cells r b b′ (p .names-bad) (rw same (q .names-bad)) in
+    let rest : (n ≡ n′) × (new ≡ new′) = elim (ℕ-discrete r 0) [
+      | yes e ↦
           let e′ = sym same ∙ e in
           let size : n ≡ n′ = p .size e ∙ sym (q .size e′) in
           (size, p .written e ∙ ap (λ (k : ℕ). fileOf S cells ++ drop k old) size ∙ sym (q .written e′))
-      | inr z ↦
+      | no z ↦
           let a = p .nothing z in
           let b = q .nothing (λ e. z (same ∙ e)) in
           (a .0 ∙ sym (b .0), a .1 ∙ sym (b .1))
@@ -173,6 +167,6 @@ pub gives-back : {S : Sizes} {cells old new : List ℕ} {r b n : ℕ} → Writes
 gives-back {S} {cells} {old} {new} {n = n} p e q l =
     let front : take n new ≡ fileOf S cells = ap (take n) (p .written e) ∙ take-at (fileOf S cells) (drop n old) n (sym (p .size e)) in
     let f = subst (MapFile S cells) (sym front) (p .a-file e) in
-    let z = q .read .1 (S, cells, f, l) in
+    let z = q .read f l in
     let a = q .given z f in
     (z, a .0, a .1, a .2, a .3)

@@ -19,12 +19,12 @@ use Rattle.mesh.specs.declared.Answer.the-variants.{Done, Refused}
 use Rattle.mesh.specs.declared.Numbered.the-variants.{Number, NotNumbered}
 use Rattle.mesh.proofs.Answers.{sizes-is}
 use Rattle.mesh.proofs.Tests.{T-and, T-le, holds-true}
-use Rattle.mesh.proofs.Order.{map-decided}
+use Rattle.mesh.proofs.Order.{all-pass, map-decided}
 use Rattle.format.specs.Format.{fileLimit, distance, trailerAt, hasMark, sizesIn, distanceIn, cellsIn}
 use Rattle.format.specs.Entry.{checkFrame, checkTrailer, readCheck, readAnswer, readWritten, readOut}
 use Rattle.format.specs.Entry.{writeCheck, writeAnswer}
 use Rattle.format.specs.declared.MapRead.the-variants.{Read, NotRead}
-use Rattle.format.proofs.Order.{all-pass, frame-passes, trailer-passes, read-passes, write-passes}
+use Rattle.format.proofs.Order.{frame-passes, trailer-passes, read-passes, write-passes}
 
 pub between-least : (a b n : ℕ) → between a b n ≡ true → a ≤ n
 between-least a b n e = let (l, m) = simp (T-and, T-le) at (holds-true (between a b n) .1 e) in l
@@ -106,7 +106,7 @@ module _ (file : List ℕ) where
       let (f, (s, (r, (h, (g, _))))) = read-passes file room .0 e in
       let S = sizesIn file in
       let cells = cellsIn file in
-      all-pass (mapChecks S cells) (checkMap S cells) tt (map-decided S cells) .1 (s, (cells-size (r .inside), (g, tt)))
+      all-pass (mapChecks S cells) (checkMap S cells) (map-decided S cells) .1 (s, (cells-size (r .inside), (g, tt)))
 
   pub read-front : (out : List ℕ) → readCheck file (length out) ≡ Done → take (nodes (sizesIn file)) (readOut file out) ≡ cellsIn file
   unfolding readWritten

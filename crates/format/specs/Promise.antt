@@ -2,7 +2,7 @@
 -- writing one. proofs/Promise.antt shows that the definitions keep it, that nothing else does, and that reading gives back what was written.
 -- Assumes nothing.
 use mathlib.Core.List.{List, [], _∷_, _++_}
-use mathlib.Core.Logic.{_↔_, _≢_}
+use mathlib.Core.Logic.{_≢_}
 use mathlib.Core.Path.{_≡_}
 use Prim.Native.Nat.{ℕ, _+_, _<_, _≤_}
 use lib.ListN.{length, getD, drop}
@@ -37,13 +37,18 @@ readChecks file room =
 abbrev pub writeChecks : Sizes → List ℕ → ℕ → List Check
 writeChecks S cells room = mapChecks S cells ++ (distance S ≤ room) else 3 ∷ []
 
+-- Each of the list is below 256, as bytes are. (The lists of the contracts are of any numbers; at the boundary they are of bytes.)
+abbrev pub Bytes : List ℕ → Type 0
+Bytes l = (i : ℕ) → getD l i 0 < 256
+
 -- The bytes `old` are lent for a file's cells; a reading answers by its number, the bad cell and the sizes w, h, d, and leaves `new`.
 pub record Reads (file old : List ℕ) (refusal bad w h d : ℕ) (new : List ℕ) : Type 0 where
   -- the first check that fails gives its number, none gives 0, and 4 names the first bad cell;
   pub order : readChecks file (length old) give refusal
   pub names-bad : NamesBad (sizesIn file) (cellsIn file) refusal bad
-  -- a file is read exactly where it is one of a map, notes and cells and trailer, and there is room;
-  pub read : (refusal ≡ 0) ↔ ((S : Sizes) × (cells : List ℕ) × MapFile S cells file × (nodes S ≤ length old))
+  -- the file of a map, notes and cells and trailer, is read where there is room; and a row of bytes that is read is the file of a map;
+  pub read : {S : Sizes} {cells : List ℕ} → MapFile S cells file → nodes S ≤ length old → refusal ≡ 0
+  pub of-a-map : Bytes file → refusal ≡ 0 → (S : Sizes) × (cells : List ℕ) × MapFile S cells file × (nodes S ≤ length old)
   -- then the sizes are that map's, its cells stand in front, and "longer outputs keep their remaining places";
   pub given : refusal ≡ 0 → {S : Sizes} {cells : List ℕ} → MapFile S cells file
       → (w ≡ S .w) × (h ≡ S .h) × (d ≡ S .d) × (new ≡ cells ++ drop (nodes S) old)

@@ -102,11 +102,13 @@ gives [] a d = rw d
 gives (c ∷ cs) a (inl d) = let (r, e, n) = d .1 in inl (d .0, rw e n)
 gives (c ∷ cs) a (inr d) = inr (d .0, gives cs a (d .1))
 
--- done, all have passed
-pub all-passed : (cs : List Check) (a : Answer) → cs decide a → a ≡ Done → AllPass cs
-all-passed [] a d e = tt
-all-passed (c ∷ cs) a (inl d) e = let (r, f, n) = d .1 in let z : _≡_ {A = ℕ} 0 1 = cc in absurd (omega arith)
-all-passed (c ∷ cs) a (inr d) e = (d .0, all-passed cs a (d .1) e)
+-- done exactly if all pass
+pub all-pass : (cs : List Check) (a : Answer) → cs decide a → (a ≡ Done) ↔ AllPass cs
+all-pass [] a d = (λ e. tt, λ p. d)
+all-pass (c ∷ cs) a (inl d) =
+    let (r, f, n) = d .1 in
+    (λ e. let z : _≡_ {A = ℕ} 0 1 = cc in absurd (omega arith), λ p. absurd (d .0 (p .0)))
+all-pass (c ∷ cs) a (inr d) = let (f, g) = all-pass cs a (d .1) in (λ e. (d .0, f e), λ p. g (p .1))
 
 -- one after another
 pub decides-then : (cs ds : List Check) (a b : Answer) → cs decide a → ds decide b → cs ++ ds decide (a andThen b)

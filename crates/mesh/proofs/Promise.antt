@@ -29,7 +29,7 @@ use Rattle.mesh.specs.declared.Answer.the-variants.{Done, Refused}
 use Rattle.mesh.proofs.Tests.{T-le, holds-true}
 use Rattle.mesh.proofs.Answers.{inside-of, inside-is}
 use Rattle.mesh.proofs.Numbers.{number-of, number-eq, place-in}
-use Rattle.mesh.proofs.Order.{one-number, _decide_, gives, all-passed, decides-then, decides-by, sizes-decided, node-decided, not-zero}
+use Rattle.mesh.proofs.Order.{one-number, _decide_, gives, all-pass, decides-then, decides-by, sizes-decided, node-decided, not-zero}
 
 -- ---- a step, as the table says it
 
@@ -113,7 +113,7 @@ module _ (S : Sizes) (p : Place) where
         go : (a : Answer) → step-checks decide a → (n : Next) → next S p j ≡ n → answered (stepped a n)
         go Done d (At q) e = record {
           order = gives step-checks Done d;
-          led = λ _ _. step-iff S p j q (all-passed step-checks Done d refl .1 .1 .0) .0 e;
+          led = λ _ _. step-iff S p j q (all-pass step-checks Done d .0 refl .1 .1 .0) .0 e;
           ends = λ _ n. absurd (n refl);
           nowhere = λ n. absurd (n refl);
           nothing = λ n. absurd (n refl);
@@ -122,7 +122,7 @@ module _ (S : Sizes) (p : Place) where
           order = gives step-checks Done d;
           led = λ _ h. absurd (omega arith);
           ends = λ _ _ q i o.
-              let f = step-iff S p j q (all-passed step-checks Done d refl .1 .1 .0) .1 (i, o) in
+              let f = step-iff S p j q (all-pass step-checks Done d .0 refl .1 .1 .0) .1 (i, o) in
               let z : _≡_ {A = ℕ} 0 1 = cc in
               absurd (omega arith);
           nowhere = λ n. (refl, refl, refl, refl);
@@ -151,7 +151,7 @@ module _ (S : Sizes) (k : ℕ) where
       go : (a : Answer) → node-checks decide a → found (placed a (placeOf S k))
       go Done d = record {
         order = gives node-checks Done d;
-        placed = λ g. (place-in S k (all-passed node-checks Done d refl .1 .0), number-of S k);
+        placed = λ g. (place-in S k (all-pass node-checks Done d .0 refl .1 .0), number-of S k);
         nothing = λ n. absurd (n refl);
       }
       go (Refused r) d = record { order = gives node-checks (Refused r) d; placed = λ g. absurd (not-zero r g); nothing = λ n. (refl, refl, refl) }

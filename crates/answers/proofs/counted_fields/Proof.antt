@@ -10,7 +10,7 @@ cast-count : tie.Need-cast-count
 cast-count c = let h = subst NumberedFits (c .before .a .given .1) (c .before .before .before .pre) in omega arith
 
 refused-requires : tie.Need-refused-requires
-refused-requires c κs = subst NumberedFits (c .before .a2 .given .1) (c .before .before .before .pre)
+refused-requires c κs = subst NumberedFits (c .before .a2 .given .1) (c .before .before .before .pre) .0
 
 returns : tie.Need-returns
 returns c = rw (c .before .a .given .1)

@@ -1,14 +1,14 @@
 -- `answers::done_fields` meets its contract, case by case. Assumes nothing.
 use mathlib.Core.Path.{subst}
-use Prim.Native.Nat.{_≤_}
 use Rattle.mesh.specs.Answers.{answerBad}
 use Rattle.mesh.specs.declared.Answer.{Answer}
+use Rattle.answers.specs.Fields.{Fits}
 use borrow.Author.Needs.{needs}
 use Rattle.answers.proofs.done_fields.Statement.{statement}
 use Rattle.answers.proofs.done_fields.Tie as tie
 
 refused-requires : tie.Need-refused-requires
-refused-requires c κs = subst (λ (a : Answer). answerBad a ≤ 65536) (c .before .a .given .1) (c .before .before .before .pre)
+refused-requires c κs = subst (λ (a : Answer). Fits (answerBad a)) (c .before .a .given .1) (c .before .before .before .pre)
 
 returns : tie.Need-returns
 returns c = rw (c .enum-told .given .1)

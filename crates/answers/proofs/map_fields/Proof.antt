@@ -7,16 +7,16 @@ use Rattle.answers.proofs.map_fields.Statement.{statement}
 use Rattle.answers.proofs.map_fields.Tie as tie
 
 cast-w : tie.Need-cast-w
-cast-w c = let h = subst MapFits (c .before .before .a .given .1) (c .before .before .before .before .pre) in omega (arith, h .w-hi)
+cast-w c = let h = subst MapFits (c .before .before .a .given .1) (c .before .before .before .before .pre) in omega (arith, h .1)
 
 cast-h : tie.Need-cast-h
-cast-h c = let h = subst MapFits (c .before .before .before .a .given .1) (c .before .before .before .before .before .pre) in omega (arith, h .h-hi)
+cast-h c = let h = subst MapFits (c .before .before .before .a .given .1) (c .before .before .before .before .before .pre) in omega (arith, h .2)
 
 cast-d : tie.Need-cast-d
-cast-d c = let h = subst MapFits (c .before .before .before .before .a .given .1) (c .before .before .before .before .before .before .pre) in omega (arith, h .d-hi)
+cast-d c = let h = subst MapFits (c .before .before .before .before .a .given .1) (c .before .before .before .before .before .before .pre) in omega (arith, h .3)
 
 refused-requires : tie.Need-refused-requires
-refused-requires c κs = subst MapFits (c .before .a2 .given .1) (c .before .before .before .pre)
+refused-requires c κs = subst MapFits (c .before .a2 .given .1) (c .before .before .before .pre) .0
 
 returns : tie.Need-returns
 returns c = rw (c .before .before .before .before .a .given .1)

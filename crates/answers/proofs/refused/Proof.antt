@@ -4,11 +4,12 @@ use mathlib.Core.Path.{_≡_, refl, subst}
 use mathlib.Core.List.{List, [], _∷_}
 use types.Run.{OneOf, miss}
 use denote.Enum.Declared.{tagOf}
-use Prim.Native.Nat.{ℕ, _≤_}
+use Prim.Native.Nat.{ℕ}
 use Rattle.mesh.specs.Answers.{refusalBad}
 use Rattle.mesh.specs.declared.Refusal.{Refusal}
 use Rattle.mesh.proofs.Refusal.{the-type}
 use Rattle.mesh.specs.declared.Refusal.the-variants.{BadSizes, BadLength, NoRoom, BadCell, BadNumber, Unsound, NoPair, NotHeld, FaultyEnd, NoPath, BadFile}
+use Rattle.answers.specs.Fields.{Fits}
 use borrow.Author.Needs.{needs}
 use Rattle.answers.proofs.refused.Statement.{statement}
 use Rattle.answers.proofs.refused.Tie as tie
@@ -34,7 +35,7 @@ returns : tie.Need-returns
 returns c = rw (c .before .number .ensures, no-bad _ (c .match .keys2))
 
 cast-bad : tie.Need-cast-bad
-cast-bad c = let h = subst (λ (r : Refusal). refusalBad r ≤ 65536) (c .before .r .given .1) (c .before .before .before .before .pre) in omega arith
+cast-bad c = let h = subst (λ (r : Refusal). Fits (refusalBad r)) (c .before .r .given .1) (c .before .before .before .before .pre) in omega arith
 
 returns-2 : tie.Need-returns-2
 returns-2 c = rw (c .before .before .before .number .ensures, c .before .r .given .1)

@@ -10,7 +10,7 @@ cast-hops : tie.Need-cast-hops
 cast-hops c = let h = subst VerdictFits (c .before .a .given .1) (c .before .before .before .pre) in omega arith
 
 refused-requires : tie.Need-refused-requires
-refused-requires c κs = subst VerdictFits (c .before .a2 .given .1) (c .before .before .before .pre)
+refused-requires c κs = subst VerdictFits (c .before .a2 .given .1) (c .before .before .before .pre) .0
 
 returns : tie.Need-returns
 returns c = rw (c .before .a .given .1)
