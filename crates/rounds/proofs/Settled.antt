@@ -15,7 +15,7 @@ use Rattle.mesh.proofs.Tests.{holds-true}
 use Rattle.mesh.proofs.Answers.{sizes-is}
 use Rattle.talk.specs.Sound.{SoundOn, fresh}
 use Rattle.talk.specs.Rounds.{run, FullRounds, none, more}
-use Rattle.talk.specs.Promise.{countRefusal, countOf, Promise}
+use Rattle.talk.specs.Promise.{countRefusal, countOf, Settled, Promise}
 use Rattle.talk.proofs.Same.{sound-on}
 use Rattle.talk.proofs.Fresh.{fresh-promise}
 use Rattle.talk.proofs.Soon.{soon-settled}
@@ -108,7 +108,7 @@ module _ (m : Map) (o : ℕ) where
         let z : longest S ≡ 0 + longest S = omega arith in
         let f = found (longest S) 0 (subst (λ (k : ℕ). outstandingAfter m o k ≡ 0) z last-settled) in
         let (granted, news) = exact (settledAt m o) in
-        let done = (granted, news ∙ f .none-left) in
+        let done : Settled m o (at (settledAt m o)) = (granted, news ∙ f .none-left) in
         record {
           later = later m o;
           full = full;

@@ -3,7 +3,7 @@ use mathlib.Core.Path.{_≡_, refl, sym, _∙_}
 use mathlib.Core.Logic.{_↔_, _≢_, inl, inr}
 use mathlib.Core.Bool.{Bool}
 use mathlib.Core.List.{List, [], _∷_, _++_}
-use Prim.Native.Nat.{ℕ, _+_, _*_, _<_, _≤_}
+use Prim.Native.Nat.{ℕ, _<_, _≤_}
 use native.Mathlib.Omega.{arith}
 use lib.Dec.{T, eqb, leb, ltb}
 use lib.ListN.{length}
@@ -20,10 +20,10 @@ use Rattle.mesh.specs.declared.Answer.the-variants.{Done, Refused}
 use Rattle.mesh.proofs.Tests.{T-eq, T-le, T-lt}
 use Rattle.mesh.proofs.Order.{not-given, _decide_, gives, decides-then, decides-by, sizes-decided, orientation-decided, map-decided, bad-then, bad-unless, bad-map, not-zero, done-of}
 use Rattle.talk.specs.State.{heard, mapIn, pair, says}
-use Rattle.talk.specs.Sound.{within, _noMoreThan_, sound, Sound, fresh}
+use Rattle.talk.specs.Sound.{within, sound, fresh}
 use Rattle.talk.specs.Hear.{changed, outstanding}
 use Rattle.talk.specs.Entries.{checkState, freshAnswer, freshOut, soundAnswer, outstandingAnswer, hearAnswer, hearOut}
-use Rattle.talk.specs.Calls.{freshChecks, FreshCall, soundChecks, SoundCall, OutstandingCall, WordHeard, hearChecks, HearCall}
+use Rattle.talk.specs.Calls.{FreshCall, soundChecks, SoundCall, OutstandingCall, WordHeard, hearChecks, HearCall}
 use Rattle.talk.proofs.Decide.{within-iff, sound-iff}
 use Rattle.talk.proofs.Hear.{added-marks, added-word, others-kept, long-kept, heard-new, own-new}
 use Rattle.talk.proofs.Calls.{written, unchanged, hear-passed}

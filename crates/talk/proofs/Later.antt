@@ -129,8 +129,9 @@ module _ (m : Map) (o : ℕ) where
         let gd = run-grown (r .since) (after S o v (hearing k j w)) (rw (run-append S o (r .before) (r .between) s) at qc) (gc .sound) in
         let p = pair-talks m k j t in
         let n = neighbour S k j in
+        let since : says S s k j noMoreThan w = gu .owns n in
         let word = works-word m o u (gu .sound) n (speaker-lt m k j p) (speaker-works m k j p) in
         let e = grants m o fit o-le v (gv .sound) k j w t word (gv .owns n) in
         rw
         (r .parts, run-append S o ab (hearing k j w ∷ r .since) s, run-append S o (r .before) (r .between) s)
-        (gd .hears k j t a (rw e (heard-gets m o v (gv .sound) k j w t (gv .owns n) a (gu .owns n a x))))
+        (gd .hears k j t a (rw e (heard-gets m o v (gv .sound) k j w t (gv .owns n) a (since a x))))

@@ -38,9 +38,9 @@ module _ (m : Map) (o : ℕ) (fit : T (inRange (m .sizes))) (o-le : o ≤ 7) whe
     later-sound : (t : List ℕ) → Later S o s t → SoundOn m o t
     later-sound t l = later-grown m o fit o-le s t (sound-on m o s y h) l .sound
 
-    fewer : (t : List ℕ) → Later S o s t → (u : List ℕ) → Later S o t u → (k j w : ℕ) → T (pair m k j) → T (isWord w)
+    weaker : (t : List ℕ) → Later S o s t → (u : List ℕ) → Later S o t u → (k j w : ℕ) → T (pair m k j) → T (isWord w)
         → w noMoreThan says S t k j → hearRefusal S o k j w u ≡ 0
-    fewer t l u q k j w p v f =
+    weaker t l u q k j w p v f =
         let g = later-grown m o fit o-le t u (later-sound t l) q in
         rw (takes m o fit o-le u (g .sound) k j w p v λ a x. g .owns (neighbour S k j) a (f a x))
 
@@ -48,7 +48,7 @@ module _ (m : Map) (o : ℕ) (fit : T (inRange (m .sizes))) (o-le : o ≤ 7) whe
     held t l u q k j p =
         let r = pair-talks m k j p in
         let word = works-word m o t (later-sound t l) (neighbour S k j) (speaker-lt m k j r) (speaker-works m k j r) in
-        fewer t l u q k j (says S t k j) p word λ a x. x
+        weaker t l u q k j (says S t k j) p word λ a x. x
 
     sooner : (t : List ℕ) → Later S o s t → (u : List ℕ) (n : ℕ) → fewerRounds m ≤ n → FullRounds m o u n t → Settled m o u
     sooner t l u n e r =
@@ -64,7 +64,7 @@ module _ (m : Map) (o : ℕ) (fit : T (inRange (m .sizes))) (o-le : o ≤ 7) whe
       kept = λ t l u q k _. later-grown m o fit o-le t u (later-sound t l) q .owns k;
       refused = λ t l k j w n. unchanged (hearAnswer S o k j w t) (changed S o k j w t) t n;
       held = held;
-      fewer = fewer;
+      weaker = weaker;
       late = λ t l k j w p v f. let (a, b) = late m o fit o-le t (later-sound t l) k j w p v f in (rw a, b);
       no-more = λ t l. no-more m o t (later-sound t l);
       exact = λ t l. exact t (later-sound t l);

@@ -71,6 +71,11 @@ module _ (m : Map) (o : ℕ) (s : List ℕ) where
   pub works-word : SoundOn m o s → (k : ℕ) → k < nodes (m .sizes) → T (worksNode m k) → T (isWord (own s k))
   works-word z k l w = rw (z .ruled k l w) (ruled-word (m .sizes) o (heard s k))
 
+  -- "A faulty node has own byte 1 and six zeros."
+  pub six-zeros : SoundOn m o s → (k : ℕ) → k < nodes (m .sizes) → T (faultyNode m k) → (own s k ≡ 1) × ((j : ℕ) → j < 6 → heard s k j ≡ 0)
+  unfolding faultyHears
+  six-zeros z = z .failed
+
   pub on-state : SoundOn m o s → StateOf m s
   on-state z k l = (
     λ e. elim (tried (faultyNode m k)) [ inl f ↦ f | inr w ↦ absurd (not-one (own s k) (works-word z k l w) e) ],

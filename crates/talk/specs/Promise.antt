@@ -59,9 +59,9 @@ module _ (m : Map) (o : ℕ) where
     pub kept : (t : List ℕ) → Later S o s t → (u : List ℕ) → Later S o t u → (k : ℕ) → k < nodes S → own t k noMoreThan own u k
     -- a refused word changes nothing;
     pub refused : (t : List ℕ) → Later S o s t → (k j w : ℕ) → hearRefusal S o k j w t ≢ 0 → hearOut S o k j w t ≡ t
-    -- a word that the speaker held at some moment is granted whenever it comes, and so is one with fewer marks;
+    -- a word that the speaker held at some moment is granted whenever it comes, and so is a weaker one;
     pub held : (t : List ℕ) → Later S o s t → (u : List ℕ) → Later S o t u → (k j : ℕ) → T (pair m k j) → hearRefusal S o k j (says S t k j) u ≡ 0
-    pub fewer : (t : List ℕ) → Later S o s t → (u : List ℕ) → Later S o t u → (k j w : ℕ) → T (pair m k j) → T (isWord w)
+    pub weaker : (t : List ℕ) → Later S o s t → (u : List ℕ) → Later S o t u → (k j w : ℕ) → T (pair m k j) → T (isWord w)
         → w noMoreThan says S t k j → hearRefusal S o k j w u ≡ 0
     -- late or repeated, with no mark that was not heard before, it is granted and changes nothing;
     pub late : (t : List ℕ) → Later S o s t → (k j w : ℕ) → T (pair m k j) → T (isWord w) → w noMoreThan heard t k j
@@ -72,7 +72,7 @@ module _ (m : Map) (o : ℕ) where
     pub exact : (t : List ℕ) → Later S o s t → (countRefusal S o t ≡ 0) × (countOf S o t ≡ outstandingOn m t)
     -- settled, each node's own byte is the mark byte of the rules;
     pub settled : (t : List ℕ) → Later S o s t → Settled t → (k : ℕ) → k < nodes S → own t k ≡ markAt m o (placeOf S k)
-    -- 2 × W + 1 full rounds settle it, or more; W + 1 do;
+    -- 2 × W + 1 full rounds settle it, or more; W + 1 do (they lead to a later state: `rounds-later` of proofs/);
     pub settles : (t : List ℕ) → Later S o s t → (u : List ℕ) (n : ℕ) → enoughRounds m ≤ n → FullRounds m o u n t → Settled u
     pub settles-sooner : (t : List ℕ) → Later S o s t → (u : List ℕ) (n : ℕ) → fewerRounds m ≤ n → FullRounds m o u n t → Settled u
     -- and there are full rounds, as many as one likes.
