@@ -34,7 +34,8 @@ use Rattle.talk.proofs.State.{pair-talks, talks-pair, speaker-lt, speaker-works
 use Rattle.talk.proofs.Same.{works-word}
 use Rattle.talk.proofs.Hear.{added-word}
 use Rattle.talk.proofs.Calls.{state-passed, numbers-passed, hear-passed}
-use Rattle.scans.proofs.Scanned.{fits-word, word-heard, quick-is}
+use Rattle.states.proofs.Fitting.{fits-word}
+use Rattle.scans.proofs.Scanned.{word-heard, quick-is}
 
 -- ---- the checks
 

@@ -10,14 +10,14 @@ ghost use Rattle.rules.specs.Marks.{isWord};
 ghost use Rattle.talk.specs.Entries.{checkState, checkWord, freshAnswer};
 
 // Refused by r unless the test holds.
-pub fn unless(ok: bool, r: Refusal) -> Answer
+pub(crate) fn unless(ok: bool, r: Refusal) -> Answer
     ensures { λ a. ⌜ a ≡ unless ok r ⌝ }
 {
     if ok { Answer::Done } else { Answer::Refused(r) }
 }
 
 // The first refusal stands.
-pub fn and_then(a: Answer, b: Answer) -> Answer
+pub(crate) fn and_then(a: Answer, b: Answer) -> Answer
     ensures { λ r. ⌜ r ≡ a andThen b ⌝ }
 {
     if let Answer::Done = a { b } else { a }
@@ -34,7 +34,7 @@ fn check_state(s: Sizes, long: usize) -> Answer
 }
 
 // Refusals 1, 2, 4 and 5, for a room of so many bytes.
-pub fn check_fresh(s: Sizes, cells: &[u8], o: usize, room: usize) -> Answer
+pub(crate) fn check_fresh(s: Sizes, cells: &[u8], o: usize, room: usize) -> Answer
     ensures { λ r. ⌜ r ≡ freshAnswer s (now (cells .entry)) o room ⌝ }
 {
     let a = and_then(check_state(s, room), check_map(s, cells));
@@ -42,7 +42,7 @@ pub fn check_fresh(s: Sizes, cells: &[u8], o: usize, room: usize) -> Answer
 }
 
 // Refusals 1, 2 and 5, for a question about a state of so many bytes.
-pub fn check_question(s: Sizes, o: usize, long: usize) -> Answer
+pub(crate) fn check_question(s: Sizes, o: usize, long: usize) -> Answer
     ensures { λ r. ⌜ r ≡ checkState s long andThen checkOrientation o ⌝ }
 {
     and_then(check_state(s, long), unless(o <= 7, Refusal::BadNumber))
@@ -56,7 +56,14 @@ fn is_word(word: usize) -> bool
 }
 
 // The numbers of a call of hear: refusals 1, 2 and 5.
-pub fn check_numbers(s: Sizes, long: usize, o: usize, k: usize, j: usize, word: usize) -> Answer
+pub(crate) fn check_numbers(
+    s: Sizes,
+    long: usize,
+    o: usize,
+    k: usize,
+    j: usize,
+    word: usize,
+) -> Answer
     ensures { λ r. ⌜ r ≡ checkState s long andThen checkOrientation o andThen checkNode s k andThen checkDirection j andThen checkWord word ⌝ }
 {
     let a = check_question(s, o, long);

@@ -11,8 +11,8 @@ use mesh::Refusal;
 use mesh::Sizes;
 use scans::all_right;
 use scans::scan;
+use states::bytes::fits;
 use states::bytes::rule_byte;
-use states::bytes::unfit;
 use states::pairs::pair;
 use states::pairs::says;
 ghost use mathlib.Core.Path.{_≡_};
@@ -66,10 +66,7 @@ fn check_hear(s: Sizes, o: usize, k: usize, j: usize, word: usize, state: &[u8])
     };
     let right = unless(all_right(s, o, state), Refusal::Unsound);
     let paired = unless(pair(s, state, k, j), Refusal::NoPair);
-    let held = unless(
-        unfit(says(s, state, k, j), word as u8) == 0,
-        Refusal::NotHeld,
-    );
+    let held = unless(fits(says(s, state, k, j), word as u8), Refusal::NotHeld);
     and_then(and_then(right, paired), held)
 }
 

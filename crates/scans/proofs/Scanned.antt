@@ -6,7 +6,6 @@ use mathlib.Core.Bool.{Bool, true, false, cond, _&&_, _||_}
 use mathlib.Core.List.{List}
 use Prim.Native.Nat.{ℕ, _*_, _<_}
 use native.Mathlib.Omega.{arith}
-use lib.Bits.{bitAnd, bitOr, or-add-and, and-le-r, or-zero-r}
 use lib.Dec.{T, eqb}
 use borrow.Author.Tests.{eq-eqb}
 use lib.ListN.{length}
@@ -31,42 +30,10 @@ use Rattle.states.specs.Six.{isOwn, isHeard, fits, hinders, quickRule, shows}
 use Rattle.scans.specs.Scan.{nodeTest, rowTest}
 use Rattle.talk.proofs.State.{faulty-in, wall-in}
 use Rattle.states.proofs.Quick.{rule-by}
+use Rattle.states.proofs.Fitting.{fits-bare, fits-word}
 use Rattle.states.proofs.Shown.{read-at}
 
 -- ---- bytes
-
--- where 8 or 1 is shown, that byte alone is right
-fits-bare : (n b : ℕ) → bitAnd n 6 ≡ 0 → fits n b ≡ eqb b n
-unfolding fits
-fits-bare n b e = rw (e, or-zero-r b)
-
--- where a word is shown, a word within it: a byte that fits is no greater, and the rest is computed
-fits-low : (n b : ℕ) → T (isWord n) → T (fits n b) → b < 7
-unfolding fits
-fits-low n b w t =
-    let e : bitOr b (bitAnd n 6) ≡ n = T-eq (bitOr b (bitAnd n 6)) n .0 t in
-    let l : n < 7 = word-cases (λ n. n < 7) (omega arith) (omega arith) (omega arith) (omega arith) n w in
-    omega (arith, or-add-and b (bitAnd n 6), and-le-r b (bitAnd n 6))
-
--- the two tests agree on the bytes up to 6
-abbrev alike : ℕ → ℕ → Bool
-alike n b = implies (fits n b) (isWord b && within b n) && implies (isWord b && within b n) (fits n b)
-
-all-alike : (n : ℕ) → T (isWord n) → T (all 7 (alike n))
-unfolding all fits isWord within has
-all-alike = word-cases (λ n. T (all 7 (alike n))) tt tt tt tt
-
-pub fits-word : (n b : ℕ) → T (isWord n) → fits n b ≡ isWord b && within b n
-fits-word n b w = bool-ext (fits n b) (isWord b && within b n)
-    (λ t. T-implies (fits n b) (isWord b && within b n) .0 (at (fits-low n b w t) .0) t)
-    (λ t. T-implies (isWord b && within b n) (fits n b) .0 (at (word-low (T-and (isWord b) (within b n) .0 t .0)) .1) t)
-  where
-    at : b < 7 → T (implies (fits n b) (isWord b && within b n)) × T (implies (isWord b && within b n) (fits n b))
-    at l = T-and (implies (fits n b) (isWord b && within b n)) (implies (isWord b && within b n) (fits n b)) .0
-        (T-all 7 (alike n) .0 (all-alike n w) b l)
-
-    word-low : T (isWord b) → b < 7
-    word-low = word-cases (λ b. b < 7) (omega arith) (omega arith) (omega arith) (omega arith) b
 
 -- what a working node may have heard
 heard-cases : (P : ℕ → Type 0) → P 8 → P 1 → ((b : ℕ) → T (isWord b) → P b) → (b : ℕ) → T (isHeard b) → P b

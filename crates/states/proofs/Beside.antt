@@ -13,13 +13,34 @@ use Rattle.rules.specs.Marks.{counted, rule}
 use Rattle.mesh.specs.declared.Sizes.{Sizes}
 use Rattle.mesh.proofs.Bits.{bit-le, bit-and}
 use Rattle.mesh.proofs.Tests.{T-eq, T-all, all-same}
-use Rattle.states.specs.Six.{Bytes, packed, six, ones, looks, hinders}
-use Rattle.states.proofs.Quick.{all-axes, rule-axes}
-use Rattle.states.proofs.Packed.{packed-same, packed-eq, packed-and, packed-or, packed-add, packed-mul, packed-le, six-ones}
+use Rattle.states.specs.Six.{Bytes, packed, six, byteAt, ones, looks, hinders, quickRule}
+use Rattle.states.proofs.Quick.{all-axes, rule-axes, rule-six}
+use Rattle.states.proofs.Packed.{packed-same, same-packed, packed-eq, packed-and, packed-or, packed-add, packed-mul, packed-le, six-ones}
 
 -- six bytes are below 2 to the 48
 pub six-lt : (f : ℕ → ℕ) → Bytes f → six f < 281474976710656
 six-lt f b = omega (arith, packed-le 6 f (λ j. 255) (λ j. omega (arith, b j)), six-ones 255)
+
+-- and every number below that is six bytes, its own
+pub byte-lt : (n : ℕ) → Bytes (byteAt n)
+byte-lt n zero = mod-lt n (omega arith)
+byte-lt n (suc j) = byte-lt (n / 256) j
+
+pub six-bytes : (n : ℕ) → n < 281474976710656 → six (byteAt n) ≡ n
+unfolding packed
+six-bytes n l = omega arith
+
+pub bytes-six : (n : ℕ) (f : ℕ → ℕ) → Bytes f → n ≡ six f → (j : ℕ) → j < 6 → byteAt n j ≡ f j
+bytes-six n f b e = same-packed 6 (byteAt n) f (byte-lt n) b (six-bytes n (rw e (six-lt f b)) ∙ e)
+
+-- so what is asked of the bytes of a number is asked of the bytes that it was put together from
+pub quick-six : (S : Sizes) (o n : ℕ) (f : ℕ → ℕ) → Bytes f → n ≡ six f → quickRule S o (byteAt n) ≡ quickRule S o f
+unfolding quickRule
+quick-six S o n f b e = rule-six hinders S o (byteAt n) f (bytes-six n f b e)
+
+pub bits-six : (n : ℕ) (f : ℕ → ℕ) → Bytes f → n ≡ six f → six (λ j. bit (not (eqb (byteAt n j) 0))) ≡ six λ j. bit (not (eqb (f j) 0))
+bits-six n f b e = packed-same 6 (λ j. bit (not (eqb (byteAt n j) 0))) (λ j. bit (not (eqb (f j) 0)))
+    (λ j l. ap (λ (v : ℕ). bit (not (eqb v 0))) (bytes-six n f b e j l))
 
 -- ---- the directions ahead
 

@@ -1,4 +1,5 @@
 pub mod Quick
 pub mod Packed
 pub mod Beside
+pub mod Fitting
 pub mod Shown

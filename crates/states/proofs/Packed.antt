@@ -18,7 +18,7 @@ unfolding packed
 packed-same zero f g e = refl
 packed-same (suc n) f g e = omega (arith, e 0 (omega arith), packed-same n (λ j. f (suc j)) (λ j. g (suc j)) λ j l. e (suc j) (omega arith))
 
-same-packed : (n : ℕ) (f g : ℕ → ℕ) → Bytes f → Bytes g → packed n f ≡ packed n g → (j : ℕ) → j < n → f j ≡ g j
+pub same-packed : (n : ℕ) (f g : ℕ → ℕ) → Bytes f → Bytes g → packed n f ≡ packed n g → (j : ℕ) → j < n → f j ≡ g j
 unfolding packed
 same-packed zero f g bf bg e j l = absurd (not-suc-le-zero l)
 same-packed (suc n) f g bf bg e zero l = omega (arith, bf 0, bg 0)

@@ -1,5 +1,5 @@
 -- Bytes joined by the machine's operations are tests joined; and the rule, axis by axis and by other tests. Assumes nothing.
-use mathlib.Core.Path.{_≡_, ap₂}
+use mathlib.Core.Path.{_≡_, ap, ap₂}
 use mathlib.Core.Bool.{Bool, _&&_}
 use Prim.Native.Nat.{ℕ, _+_, _*_, _<_}
 use native.Mathlib.Omega.{arith}
@@ -60,6 +60,13 @@ pub rule-axes : (S : Sizes) → InRange S → (o : ℕ) (b : ℕ → Bool) → r
     ≡ b (ahead o X) && b (ahead o Y) && implies (counted S Z) (b (ahead o Z))
 unfolding rule
 rule-axes S r o b = rw (le-leb 2 (S .w) (r .w-lo), le-leb 2 (S .h) (r .h-lo))
+
+-- it reads six bytes, and no more of what was heard
+pub rule-six : (test : ℕ → ℕ → Bool) (S : Sizes) (o : ℕ) (f g : ℕ → ℕ) → ((j : ℕ) → j < 6 → f j ≡ g j) → ruleBy test S o f ≡ ruleBy test S o g
+rule-six test S o f g e = ap₂ (λ (u c : Bool). 2 * bit u + 4 * bit c)
+    (rule-same S o o (λ j. test 2 (f j)) (λ j. test 2 (g j)) λ a _. ap (test 2) (e (ahead o a) (dir-lt a (runsDown o a))))
+    (rule-same S (reversed o) (reversed o) (λ j. test 4 (f j)) (λ j. test 4 (g j))
+    λ a _. ap (test 4) (e (ahead (reversed o) a) (dir-lt a (runsDown (reversed o) a))))
 
 -- by tests that agree with 01's on what was heard it is 01's rule
 pub rule-by : (test : ℕ → ℕ → Bool) (S : Sizes) (o : ℕ) (h : ℕ → ℕ) → ((j : ℕ) → j < 6 → test 2 (h j) ≡ byteBlocks (h j) useless)

@@ -2,7 +2,7 @@
 use mathlib.Core.Bool.{Bool, false, cond, not, _&&_, _||_}
 use mathlib.Core.List.{List, [], _∷_}
 use mathlib.Core.Path.{_≡_}
-use Prim.Native.Nat.{ℕ, zero, suc, _+_, _-_, _*_, _<_, _≤_}
+use Prim.Native.Nat.{ℕ, zero, suc, _+_, _-_, _*_, _/_, _%_, _<_, _≤_}
 use lib.Bits.{bitAnd, bitOr}
 use lib.Dec.{eqb, ltb}
 use lib.ListN.{length, getD}
@@ -54,6 +54,11 @@ packed (suc n) f = packed n (λ j. f (suc j)) * 256 + f 0
 -- a byte for each direction
 abbrev pub six : (ℕ → ℕ) → ℕ
 six f = packed 6 f
+
+-- the bytes of a number, the lowest first
+abbrev pub byteAt : ℕ → ℕ → ℕ
+byteAt n zero = n % 256
+byteAt n (suc j) = byteAt (n / 256) j
 
 -- a 1 for each direction
 abbrev pub ones : ℕ

@@ -5,7 +5,6 @@ use mesh::Place;
 use mesh::Sizes;
 ghost use mathlib.Core.Path.{_≡_};
 ghost use Prim.Native.Nat.{ℕ, _≤_};
-ghost use lib.Dec.{eqb};
 ghost use Rattle.mesh.specs.Mesh.{InRange};
 ghost use Rattle.mesh.specs.Cells.{Map, stateLength};
 ghost use Rattle.talk.specs.State.{heard};
@@ -27,11 +26,11 @@ pub fn faulty_hears() -> u8
     0
 }
 
-// 0 if the byte b is right where the neighbour shows n.
-pub fn unfit(n: u8, b: u8) -> u8
-    ensures { λ r. ⌜ eqb r 0 ≡ fits n b ⌝ }
+// Is the byte b right where the neighbour shows n?
+pub fn fits(n: u8, b: u8) -> bool
+    ensures { λ r. ⌜ r ≡ fits n b ⌝ }
 {
-    (b | (n & 6)) ^ n
+    b | (n & 6) == n
 }
 
 // The own byte that the mark rule gives node k, by what it has heard.

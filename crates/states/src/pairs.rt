@@ -11,7 +11,7 @@ ghost use Rattle.talk.specs.State.{own, mapIn, pair, says};
 ghost use Rattle.states.specs.Six.{Ready, Held};
 
 // Is node k faulty?
-pub fn faulty(state: &[u8], k: usize) -> bool
+fn faulty(state: &[u8], k: usize) -> bool
     requires { ⌜ Held (now state) k ⌝ }
     ensures { λ r. ⌜ r ≡ eqb (own (now (state .entry)) k) 1 ⌝ }
 {

@@ -8,7 +8,7 @@ ghost use Rattle.mesh.specs.Tools.{bit};
 ghost use Rattle.mesh.specs.Mesh.{InRange, Z};
 ghost use Rattle.rules.specs.Marks.{counted, rule};
 ghost use Rattle.talk.specs.State.{heard};
-ghost use Rattle.states.specs.Six.{Held, Bytes, six, ones, looks, hinders, quickRule};
+ghost use Rattle.states.specs.Six.{Held, Bytes, six, byteAt, ones, looks, hinders, quickRule};
 
 // A 1 for each direction.
 pub const ONES: u64 = 0x0101_0101_0101;
@@ -69,8 +69,8 @@ fn stuck(s: Sizes, o: usize, heard: u64, part: u64) -> u8
 
 // The own byte that the mark rule gives a node that has heard this.
 pub fn ruled(s: Sizes, o: usize, heard: u64) -> u8
-    requires { ⌜ InRange s × (o ≤ 7) ⌝ }
-    ensures { λ r. ⌜ ((h : ℕ → ℕ) → Bytes h → heard ≡ six h → r ≡ quickRule s o h) ⌝ }
+    requires { ⌜ InRange s × (o ≤ 7) × (heard < 281474976710656) ⌝ }
+    ensures { λ r. ⌜ r ≡ quickRule s o (byteAt heard) ⌝ }
 {
     2 * stuck(s, o, heard, 2) + 4 * stuck(s, 7 - o, heard, 4)
 }
@@ -78,7 +78,7 @@ pub fn ruled(s: Sizes, o: usize, heard: u64) -> u8
 // A 1 for each byte that is not 0.
 pub fn some(bytes: u64) -> u64
     requires { ⌜ bytes < 281474976710656 ⌝ }
-    ensures { λ r. ⌜ ((h : ℕ → ℕ) → Bytes h → bytes ≡ six h → r ≡ six (λ j. bit (not (eqb (h j) 0)))) × (r ≤ ones) ⌝ }
+    ensures { λ r. ⌜ (r ≡ six (λ j. bit (not (eqb (byteAt bytes j) 0)))) × (r ≤ ones) ⌝ }
 {
     let most = 127 * ONES;
     (((bytes & most) + most | bytes) & 128 * ONES) / 128

@@ -6,7 +6,7 @@ use denote.Ref.{now}
 use Rattle.talk.specs.State.{heard}
 use Rattle.states.specs.Six.{_isBut255_}
 use Rattle.scans.specs.Scan.{nodeTest, nodeNews}
-use Rattle.states.proofs.Beside.{six-lt}
+use Rattle.states.proofs.Beside.{six-lt, quick-six, bits-six}
 use Rattle.states.proofs.Shown.{held}
 use Rattle.scans.proofs.Tested.{faulty-test, working-test, differs-six, differs-byte, faulty-news, working-news}
 use borrow.Author.Needs.{needs}
@@ -23,6 +23,13 @@ cast-wrong : tie.Need-cast-wrong
 cast-wrong c =
     let o = c .before .before .before in
     omega (arith, o .shared-slice-known2 .given (7 * o .before .number .result) .fits)
+
+ruled-requires : tie.Need-ruled-requires
+ruled-requires c κs =
+    let h = c .before .before in
+    let s = h .before .before .before .before in
+    let (e, b) = h .heard .ensures in
+    (s .pre .0 .sized, s .pre .1, rw e (six-lt _ b))
 
 some-requires : tie.Need-some-requires
 some-requires c κs =
@@ -65,8 +72,8 @@ returns-2 c =
     let e = n .number .ensures .0 in
     let (et, bt) = h .heard .ensures in
     let (es, bs) = w .shown .ensures in
-    let own = r .ruled .ensures (heard t k) bt et in
-    let six = b .some .ensures .0 _ (differs-byte (a .s) (a .o) t k (h .heard .result) et bt (w .shown .result) es bs)
+    let own = r .ruled .ensures ∙ quick-six (a .s) (a .o) (h .heard .result) (heard t k) bt et in
+    let six = b .some .ensures .0 ∙ bits-six _ _ (differs-byte (a .s) (a .o) t k (h .heard .result) et bt (w .shown .result) es bs)
     (differs-six (a .s) (a .o) t k (h .heard .result) et bt (w .shown .result) es bs) in (
       working-test (a .s) (a .o) t k (h .heard .result) et bt (w .shown .result) es bs (r .ruled .result) own (c .if1 .left)
           ∙ ap (nodeTest (a .s) (a .o) t) e,
@@ -79,4 +86,4 @@ pub node-spec : {M : Type 1} → statement M
 node-spec =
     tie.close (tie.spec (λ c κs. search needs) (λ c. search needs) (λ c. search needs) heard-requires
     (λ c κs. search needs) (λ c κs. search needs) (λ c. search needs) (λ c. search needs) (λ c. search needs) cast-wrong
-    (λ c κs. search needs) (λ c. search needs) some-requires returns returns-2)
+    ruled-requires (λ c. search needs) some-requires returns returns-2)

@@ -33,8 +33,8 @@ pair-requires c κs = let g = given (c .before .before) in (g .whole, g .node, g
 says-requires : tie.Need-says-requires
 says-requires c κs = let g = given (c .before .before .before .before) in (g .whole, g .node, g .direction)
 
-cast-unfit : tie.Need-cast-unfit
-cast-unfit c =
+cast-fits : tie.Need-cast-fits
+cast-fits c =
     let t = c .before .before .before .before .before in
     omega (arith, word-low (t .before .before .before .before .args .word) (given t .word))
 
@@ -56,7 +56,7 @@ returns-2 c =
       h .unless3 .ensures,
       p .unless2 .ensures,
       r .unless .ensures,
-      f .unfit .ensures,
+      f .fits2 .ensures,
       y .says .ensures,
       q .pair .ensures,
       r .before .all-right .ensures,
@@ -66,5 +66,5 @@ returns-2 c =
 pub check-hear-spec : {M : Type 1} → statement M
 check-hear-spec =
     tie.close (tie.spec (λ c κs. search needs) (λ c. search needs) (λ c. search needs) returns all-right-requires
-    (λ c κs. search needs) pair-requires (λ c κs. search needs) says-requires cast-unfit (λ c κs. search needs)
+    (λ c κs. search needs) pair-requires (λ c κs. search needs) says-requires cast-fits (λ c κs. search needs)
     (λ c κs. search needs) (λ c κs. search needs) (λ c κs. search needs) returns-2)
