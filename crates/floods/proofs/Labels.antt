@@ -15,15 +15,15 @@ use Rattle.mesh.proofs.Tests.{T-eq, bool-ext, tried}
 use Rattle.grids.specs.Grid.{gridSize, unseen, Spot, Beside}
 use Rattle.floods.specs.Flood.{Linked, here, onward, howOften, Flooded}
 use Rattle.touching.specs.Components.{leastOf, greatestOf}
-use Rattle.floods.specs.Label.{Ranged, Spans, Recorded, Untouched, Labelled}
+use Rattle.floods.specs.Label.{noRecords, Ranged, Spans, Recorded, Untouched, Labelled}
 use Rattle.touching.specs.declared.Component.{Component}
 use Rattle.grids.proofs.Around.{beside-sym}
 use Rattle.touching.proofs.Counts.{sum-same, same-or-not}
 use Rattle.floods.proofs.Boxes.{Boxed}
 
 -- nothing is numbered yet
-pub label-none : (g : List ℕ) (row : List Component) → length g ≡ gridSize → Untouched g → Labelled g 307 0 g row
-label-none g row s un =
+pub label-none : (g : List ℕ) (row : List Component) → length g ≡ gridSize → Untouched g → row ≡ noRecords → Labelled g 307 0 g row
+label-none g row s un e =
     record {
       size = s;
       kept = λ j. inl refl;
@@ -32,6 +32,7 @@ label-none g row s un =
       linked = λ i h. absurd (omega arith);
       rising = λ i l j h k. absurd (omega arith);
       recorded = λ i c h. absurd (omega arith);
+      no-more = λ i c _. ap (λ (r : List Component). getD r i c) e;
     }
 
 module _ (g : List ℕ) (k n : ℕ) (h : List ℕ) (row : List Component) (L : Labelled g k n h row) where
@@ -46,6 +47,7 @@ module _ (g : List ℕ) (k n : ℕ) (h : List ℕ) (row : List Component) (L : L
         linked = λ i l. let (a, la, e, f) = L .linked i l in (a, omega arith, e, f);
         rising = L .rising;
         recorded = L .recorded;
+        no-more = L .no-more;
       }
 
   module _ (small : suc n < unseen) (un : Untouched g) where
@@ -198,4 +200,5 @@ module _ (g : List ℕ) (k n : ℕ) (h : List ℕ) (row : List Component) (L : L
               linked = more-linked;
               rising = more-rising;
               recorded = more-recorded;
+              no-more = λ i d l. getD-set-other row n i c d (λ w. absurd (omega arith)) ∙ L .no-more i d (omega arith);
             }

@@ -1,13 +1,14 @@
 -- The turns of the search for the next component: what is known at place k when n components have been found. Assumes nothing.
-use mathlib.Core.Path.{_≡_, _∙_, subst}
+use mathlib.Core.Path.{_≡_, ap, _∙_, subst}
 use mathlib.Core.List.{List}
 use Prim.Native.Nat.{ℕ, _+_, _*_, _≤_, _<_}
 use native.Mathlib.Omega.{arith}
 use native.Mathlib.Numerals.{add-one}
-use lib.ListN.{length, getD, set, length-set}
+use lib.ListN.{length, getD, set, length-set, length-replicate}
+use Rattle.mesh.specs.Mesh.{place}
 use Rattle.grids.specs.Grid.{gridSize, unseen, around, Spot}
 use Rattle.floods.specs.Flood.{Sized, Flooded}
-use Rattle.floods.specs.Label.{Untouched, Within, Labelled}
+use Rattle.floods.specs.Label.{alone, noRecords, Untouched, Within, Labelled}
 use Rattle.touching.specs.declared.Component.{Component}
 use Rattle.floods.proofs.Parts.{often-le}
 use Rattle.floods.proofs.Boxes.{Boxed}
@@ -24,10 +25,17 @@ pub record Turn (g s : List ℕ) (k n : ℕ) (h q : List ℕ) (row : List Compon
   pub labelled : Labelled g k n h row
 
 pub turn-none : {g steps q : List ℕ} {row : List Component} → length g ≡ gridSize → Untouched g → steps ≡ around
-    → length q ≡ gridSize → length row ≡ 1024
+    → length q ≡ gridSize → row ≡ noRecords
     → Turn g steps 307 0 g q row
 turn-none {g} {row = row} l un e lq lr =
-    record { untouched = un; steps = e; queue = lq; room = lr; few = omega arith; labelled = label-none g row l un }
+    record {
+      untouched = un;
+      steps = e;
+      queue = lq;
+      room = ap length lr ∙ length-replicate 1024 (alone (place 0 0 0) 0);
+      few = omega arith;
+      labelled = label-none g row l un lr;
+    }
 
 module _ {g steps : List ℕ} {k n : ℕ} {h q : List ℕ} {row : List Component} (T : Turn g steps k n h q row) where
   pub turn-on : (m : ℕ) → k ≤ m → ((j : ℕ) → k ≤ j → j < m → getD h j 0 ≡ unseen → ⊥) → Turn g steps m n h q row

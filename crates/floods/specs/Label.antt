@@ -3,8 +3,8 @@ use mathlib.Core.List.{List}
 use mathlib.Core.Logic.{_⊎_}
 use mathlib.Core.Path.{_≡_}
 use Prim.Native.Nat.{ℕ, suc, _-_, _/_, _%_, _<_, _≤_, min, max}
-use lib.ListN.{length, getD}
-use Rattle.mesh.specs.Mesh.{Axis, on}
+use lib.ListN.{length, getD, replicate}
+use Rattle.mesh.specs.Mesh.{Axis, on, place}
 use Rattle.mesh.specs.declared.Place.{Place}
 use Rattle.grids.specs.Grid.{gridSize, unseen, placeAt, Spot, Beside}
 use Rattle.floods.specs.Flood.{Linked, howOften}
@@ -27,6 +27,10 @@ widen c p =
       y1 = max (c .y1) (p .y);
       z1 = max (c .z1) (p .z);
     }
+
+-- room for the records of as many components as a mesh can have, and no record in it
+abbrev pub noRecords : List Component
+noRecords = replicate 1024 (alone (place 0 0 0) 0)
 
 -- the least and the greatest coordinate on an axis: of the first n places of the queue, and of the places that hold the number m
 abbrev pub Ranged : List ℕ → ℕ → Axis → ℕ → ℕ → Type 0
@@ -60,3 +64,5 @@ pub record Labelled (g : List ℕ) (k n : ℕ) (h : List ℕ) (row : List Compon
   -- below each place of a component lie places of all components with lower numbers
   pub rising : (i l j : ℕ) → l < i → i < n → getD h j 0 ≡ suc i → (b : ℕ) × (b < j) × (getD h b 0 ≡ suc l)
   pub recorded : (i : ℕ) (c : Component) → i < n → Recorded h (suc i) (getD row i c)
+  -- and no record after those
+  pub no-more : (i : ℕ) (c : Component) → n ≤ i → getD row i c ≡ getD noRecords i c

@@ -8,7 +8,7 @@ ghost use Rattle.grids.specs.Grid.{gridSize, unseen, Spot, around};
 ghost use Rattle.floods.specs.Flood.{howOften, Sized, Visited, Spread, Flooded};
 
 // The steps to the eighteen touching places, each with 307 added. They are lent on: a constant that is indexed is laid out anew each time.
-pub fn steps_around() -> [usize; 18]
+pub(crate) fn steps_around() -> [usize; 18]
     ensures { λ r. ⌜ r ≡ around ⌝ }
 {
     [
@@ -67,7 +67,7 @@ fn spread(
 }
 
 // Gives the number to the component of a place; how many nodes it has.
-pub fn flood(
+pub(crate) fn flood(
     grid: &mut [u16],
     queue: &mut [u16],
     steps: &[usize],

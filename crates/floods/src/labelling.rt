@@ -13,11 +13,11 @@ ghost use mathlib.Core.Path.{_≡_};
 ghost use Prim.Native.Nat.{_<_, _≤_};
 ghost use lib.ListN.{length};
 ghost use Rattle.grids.specs.Grid.{gridSize};
-ghost use Rattle.floods.specs.Label.{Untouched, Within, Labelled};
+ghost use Rattle.floods.specs.Label.{noRecords, Untouched, Within, Labelled};
 
-// Room for the records of as many components as a mesh can have.
+// Room for the records of as many components as a mesh can have, and no record in it.
 fn blank_records() -> [Component; 1024]
-    ensures { λ r. ⌜ length r ≡ 1024 ⌝ }
+    ensures { λ r. ⌜ r ≡ noRecords ⌝ }
 {
     [Component {
         count: 0,

@@ -70,7 +70,7 @@ fn widened(c: Component, p: Place) -> Component
 }
 
 // The record of the first n places of the queue.
-pub fn record_of(queue: &[u16], n: usize) -> Component
+pub(crate) fn record_of(queue: &[u16], n: usize) -> Component
     requires { ⌜ (length (now queue) ≡ gridSize) × (1 ≤ n) × (n ≤ gridSize) × ((t : ℕ) → t < n → Spot (getD (now queue) t 0)) ⌝ }
     ensures { λ r. ⌜ (r .count ≡ n) × ((a : Axis) → Ranged (now (queue .entry)) n a (leastOf r a) (greatestOf r a)) ⌝ }
 {

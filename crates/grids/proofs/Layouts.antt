@@ -3,20 +3,37 @@ use mathlib.Core.Path.{_≡_, refl, sym, ap, _∙_, subst}
 use mathlib.Core.Logic.{inl, inr}
 use mathlib.Core.Bool.{Bool, cond, _&&_}
 use mathlib.Core.List.{List}
-use Prim.Native.Nat.{ℕ, _+_, _-_, _*_, _≤_, _<_}
+use Prim.Native.Nat.{ℕ, zero, suc, _+_, _-_, _*_, _≤_, _<_}
 use native.Mathlib.Omega.{arith}
 use lib.Dec.{leb, le→leb, leb→le, ltb, ltb→lt, nltb→le, not-T}
-use lib.ListN.{length, getD}
-use Rattle.mesh.specs.Mesh.{place, InRange, Inside, inside, number, placeOf}
+use lib.ListN.{length, getD, replicate, length-replicate, List·getD-eq-default}
+use lib.Seq.{ext-getD}
+use Rattle.mesh.specs.Tools.{table}
+use Rattle.mesh.specs.Mesh.{place, InRange, Inside, inside, nodes, number, placeOf}
 use Rattle.mesh.specs.Fill.{Filled}
 use Rattle.mesh.proofs.Tests.{T-and, tried, holds-true, cond-true, cond-false}
+use Rattle.mesh.proofs.Tables.{length-table, getD-table}
+use Rattle.mesh.proofs.Fill.{front}
 use Rattle.mesh.proofs.Answers.{inside-of, inside-is}
 use Rattle.mesh.proofs.Numbers.{place-of, row-end}
 use Rattle.mesh.specs.declared.Sizes.{Sizes}
 use Rattle.mesh.specs.declared.Place.{Place}
-use Rattle.grids.specs.Grid.{gridSize, spot, placeAt, shade, gridAt}
-use Rattle.grids.specs.Layout.{Laid, Copied}
+use Rattle.grids.specs.Grid.{gridSize, spot, placeAt, shade, gridAt, gridOf}
+use Rattle.grids.specs.Layout.{Laid, Copied, copied}
 use Rattle.grids.proofs.Around.{at-spot}
+
+-- ---- what an empty list holds
+
+pub blank-long : (n : ℕ) (l : List ℕ) → l ≡ replicate n 0 → length l ≡ n
+blank-long n l e = ap length e ∙ length-replicate {A = ℕ} n 0
+
+pub blank-at : (n : ℕ) (l : List ℕ) → l ≡ replicate n 0 → (j : ℕ) → getD l j 0 ≡ 0
+blank-at n l e j = ap (λ (k : List ℕ). getD k j 0) e ∙ zeros n j
+  where
+    zeros : (n j : ℕ) → _≡_ {A = ℕ} (getD (replicate n 0) j 0) 0
+    zeros zero j = refl
+    zeros (suc n) zero = refl
+    zeros (suc n) (suc j) = zeros n j
 
 -- ---- what the grid holds
 
@@ -41,6 +58,16 @@ module _ (S : Sizes) (marks : List ℕ) where
   pub laid-none : (g : List ℕ) → length g ≡ gridSize → ((j : ℕ) → getD g j 0 ≡ 0) → Laid S marks 307 g
   laid-none g l h = record { long = l; done = λ j k. h j ∙ sym (grid-none j (λ m _. omega arith)); empty = λ j _. h j }
 
+  -- read anywhere: past its end there is no place of the mesh
+  pub of-grid : InRange S → (j : ℕ) → getD (gridOf S marks) j 0 ≡ gridAt S marks j
+  of-grid r j = elim (tried (ltb j gridSize)) [
+    | inl t ↦ getD-table (gridAt S marks) gridSize j 0 (ltb→lt j gridSize t)
+    | inr t ↦
+        let h = nltb→le j gridSize t in
+        List·getD-eq-default (gridOf S marks) 0 (omega (arith, length-table (gridAt S marks) gridSize))
+        ∙ sym (grid-none j λ m i. omega (arith, i .z-in, r .d-hi))
+  ]
+
   module _ (r : InRange S) (g : List ℕ) where
     -- further on, where the mesh has no place between
     further : (n m : ℕ) → n ≤ m → Laid S marks n g → ((j : ℕ) → n ≤ j → j < m → gridAt S marks j ≡ 0) → Laid S marks m g
@@ -58,13 +85,11 @@ module _ (S : Sizes) (marks : List ℕ) where
     layer-laid z L = further (307 + (17 * S .h + 289 * z)) (307 + 289 * (z + 1)) (omega (arith, r .h-hi)) L
         λ j lo hi. grid-none j λ h i. omega (arith, i .y-in)
 
-    pub all-laid : Laid S marks (307 + 289 * S .d) g → (j : ℕ) → getD g j 0 ≡ gridAt S marks j
-    all-laid L j = elim (tried (ltb j (307 + 289 * S .d))) [
-      | inl t ↦ L .done j (ltb→lt j (307 + 289 * S .d) t)
-      | inr t ↦
-          let h = nltb→le j (307 + 289 * S .d) t in
-          L .empty j h ∙ sym (grid-none j λ m i. omega (arith, i .z-in))
-    ]
+    pub all-laid : Laid S marks (307 + 289 * S .d) g → g ≡ gridOf S marks
+    all-laid L =
+        let M = further (307 + 289 * S .d) gridSize (omega (arith, r .d-hi)) L (λ j lo hi. grid-none j λ m i. omega (arith, i .z-in)) in
+        ext-getD 0 g (gridOf S marks) (L .long ∙ sym (length-table (gridAt S marks) gridSize))
+        (λ j l. let h : j < gridSize = omega (arith, L .long) in M .done j h ∙ sym (getD-table (gridAt S marks) gridSize j 0 h))
 
     -- a row more, and what lies between it and the next
     pub row-laid : (y z k : ℕ) (new : List ℕ) → y < S .h → z < S .d → k ≡ S .w * (y + S .h * z) → Laid S marks (307 + (17 * y + 289 * z)) g
@@ -104,6 +129,12 @@ module _ (S : Sizes) (marks : List ℕ) where
 module _ (S : Sizes) (g old new : List ℕ) where
   pub copied-none : Copied S g old 0 old
   copied-none = record { long = refl; done = λ k h. absurd (omega arith); rest = λ k h. refl }
+
+  pub all-copied : nodes S ≤ length old → Copied S g old (nodes S) new → new ≡ copied S g old
+  all-copied room C =
+      let f : ℕ → ℕ = λ k. getD g (spot (placeOf S k)) 0 in
+      front (table f (nodes S)) old new (nodes S) (length-table f (nodes S)) room (C .long)
+      (λ k l. C .done k l ∙ sym (getD-table f (nodes S) k 0 l)) (C .rest)
 
   pub row-copied : (y z k : ℕ) (mid : List ℕ) → y < S .h → z < S .d → k ≡ S .w * (y + S .h * z) → Copied S g old (S .w * (y + S .h * z)) mid
       → Filled (λ x. k + x) (λ x. getD g (307 + (17 * y + 289 * z) + x) 0) mid new (S .w) → Copied S g old (S .w * (y + 1 + S .h * z)) new

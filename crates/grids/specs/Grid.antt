@@ -7,6 +7,7 @@ use mathlib.Core.Path.{_≡_}
 use Prim.Native.Nat.{ℕ, _+_, _-_, _*_, _/_, _%_, _<_, _≤_}
 use lib.ListN.{getD}
 use lib.Dec.{leb, eqb}
+use Rattle.mesh.specs.Tools.{table}
 use Rattle.mesh.specs.Mesh.{place, inside, number}
 use Rattle.mesh.specs.declared.Sizes.{Sizes}
 use Rattle.mesh.specs.declared.Place.{Place}
@@ -32,6 +33,10 @@ shade mark = cond (eqb mark 0) 0 unseen
 
 unfoldable pub gridAt : Sizes → List ℕ → ℕ → ℕ
 gridAt S marks j = cond (leb 307 j && inside S (placeAt j)) (shade (getD marks (number S (placeAt j)) 0)) 0
+
+-- all of it
+abbrev pub gridOf : Sizes → List ℕ → List ℕ
+gridOf S marks = table (gridAt S marks) gridSize
 
 -- a spot of some mesh
 pub record Spot (j : ℕ) : Type 0 where

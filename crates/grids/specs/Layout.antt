@@ -1,8 +1,9 @@
 -- How a mesh is laid into the grid, and how the numbers come back out of it. Assumes nothing.
-use mathlib.Core.List.{List}
+use mathlib.Core.List.{List, _++_}
 use mathlib.Core.Path.{_≡_}
 use Prim.Native.Nat.{ℕ, _+_, _*_, _<_, _≤_}
-use lib.ListN.{length, getD}
+use lib.ListN.{length, getD, drop}
+use Rattle.mesh.specs.Tools.{table}
 use Rattle.mesh.specs.Mesh.{nodes, placeOf}
 use Rattle.mesh.specs.declared.Sizes.{Sizes}
 use Rattle.grids.specs.Grid.{gridSize, spot, gridAt}
@@ -20,7 +21,10 @@ pub record Laid (S : Sizes) (marks : List ℕ) (n : ℕ) (g : List ℕ) : Type 0
   pub done : (j : ℕ) → j < n → getD g j 0 ≡ gridAt S marks j
   pub empty : (j : ℕ) → n ≤ j → getD g j 0 ≡ 0
 
--- the first n nodes have what the grid holds at their spots, and the rest has stayed
+-- each node has what the grid holds at its spot, and the rest has stayed; and so for the first n nodes
+abbrev pub copied : Sizes → List ℕ → List ℕ → List ℕ
+copied S g old = table (λ k. getD g (spot (placeOf S k)) 0) (nodes S) ++ drop (nodes S) old
+
 pub record Copied (S : Sizes) (g old : List ℕ) (n : ℕ) (new : List ℕ) : Type 0 where
   pub long : length new ≡ length old
   pub done : (k : ℕ) → k < n → getD new k 0 ≡ getD g (spot (placeOf S k)) 0

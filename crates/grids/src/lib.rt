@@ -4,11 +4,11 @@ use mesh::Sizes;
 ghost use mathlib.Core.Path.{_≡_};
 ghost use Prim.Native.Nat.{ℕ, _+_, _*_, _<_, _≤_};
 ghost use mathlib.Core.List.{List};
-ghost use lib.ListN.{length, getD};
+ghost use lib.ListN.{length, getD, replicate};
 ghost use Rattle.mesh.specs.Mesh.{InRange, nodes};
 ghost use Rattle.mesh.specs.Fill.{Filled};
-ghost use Rattle.grids.specs.Grid.{gridSize, spot, shade, gridAt};
-ghost use Rattle.grids.specs.Layout.{RowOf, Laid, Copied};
+ghost use Rattle.grids.specs.Grid.{gridSize, spot, shade, gridOf};
+ghost use Rattle.grids.specs.Layout.{RowOf, Laid, Copied, copied};
 
 // What the grid holds at an unsafe node that has no number yet.
 pub const UNSEEN: u16 = 65535;
@@ -33,7 +33,7 @@ struct Row {
 
 // An empty grid; the queue of the flood is as long.
 pub fn blank_grid() -> [u16; SIZE]
-    ensures { λ r. ⌜ (length r ≡ gridSize) × ((j : ℕ) → getD r j 0 ≡ 0) ⌝ }
+    ensures { λ r. ⌜ r ≡ replicate gridSize 0 ⌝ }
 {
     [0; SIZE]
 }
@@ -80,7 +80,7 @@ fn lay_layer(s: Sizes, marks: &[u8], grid: &mut [u16], z: usize)
 // Lays a mesh's mark bytes into an empty grid.
 pub fn lay(s: Sizes, marks: &[u8], grid: &mut [u16])
     requires { ⌜ InRange s × (length (now marks) ≡ nodes s) × (length (now grid) ≡ gridSize) × ((j : ℕ) → getD (now grid) j 0 ≡ 0) ⌝ }
-    ensures { λ _. ⌜ ((j : ℕ) → getD (now (grid .exit)) j 0 ≡ gridAt s (now (marks .entry)) j) ⌝ }
+    ensures { λ _. ⌜ now (grid .exit) ≡ gridOf s (now (marks .entry)) ⌝ }
 {
     let d = s.d;
     for z in 0..d {
@@ -114,7 +114,7 @@ fn copy_layer(s: Sizes, grid: &[u16], table: &mut [u16], z: usize)
 // Copies the nodes' numbers to the front of the table.
 pub fn copy_out(s: Sizes, grid: &[u16], table: &mut [u16])
     requires { ⌜ InRange s × (length (now grid) ≡ gridSize) × (nodes s ≤ length (now table)) ⌝ }
-    ensures { λ _. ⌜ Copied s (now (grid .entry)) (now (table .entry)) (nodes s) (now (table .exit)) ⌝ }
+    ensures { λ _. ⌜ now (table .exit) ≡ copied s (now (grid .entry)) (now (table .entry)) ⌝ }
 {
     let d = s.d;
     for z in 0..d {

@@ -9,7 +9,7 @@ ghost use mathlib.Core.Path.{_≡_};
 ghost use mathlib.Core.Bool.{false};
 ghost use mathlib.Core.List.{List};
 ghost use Prim.Native.Nat.{ℕ, _+_, _*_, _≤_, _<_};
-ghost use lib.ListN.{length, getD};
+ghost use lib.ListN.{length, getD, replicate};
 ghost use lib.Dec.{leb};
 ghost use Rattle.mesh.specs.Tools.{bit};
 ghost use Rattle.mesh.specs.Mesh.{InRange, nodes};
@@ -20,7 +20,7 @@ ghost use Rattle.marks.specs.Clear.{inner, Apart};
 
 // A byte for each node of the largest mesh.
 pub fn blank_marks() -> [u8; 4096]
-    ensures { λ r. ⌜ length r ≡ 4096 ⌝ }
+    ensures { λ r. ⌜ r ≡ replicate 4096 0 ⌝ }
 {
     [0; 4096]
 }
@@ -89,7 +89,7 @@ fn edge_layers(d: usize) -> usize
 }
 
 // Each node's byte: 1 where it is shut in orientation o, else 0.
-pub fn sweep(s: Sizes, cells: &[u8], out: &mut [u8], o: usize)
+pub(crate) fn sweep(s: Sizes, cells: &[u8], out: &mut [u8], o: usize)
     requires { ⌜ Room s (now cells) (now out) ⌝ }
     ensures { λ _. ⌜ Stretch (mapOf s (now (cells .entry))) o (s .h * s .d) (now (out .entry)) (now (out .exit)) ⌝ }
 {

@@ -5,11 +5,10 @@ use mathlib.Core.Logic.{inl, inr}
 use mathlib.Core.Bool.{Bool, true, false, cond, _&&_, _||_}
 use mathlib.Core.List.{List}
 use Prim.Native.Nat.{ℕ, _*_, _<_}
-use native.Mathlib.Omega.{arith}
 use lib.Dec.{T, eqb}
 use borrow.Author.Tests.{eq-eqb}
 use lib.ListN.{length}
-use Rattle.mesh.specs.Tools.{implies, all}
+use Rattle.mesh.specs.Tools.{all}
 use Rattle.mesh.specs.Mesh.{nodes, number, placeOf, Inside}
 use Rattle.mesh.specs.Steps.{next, reversed}
 use Rattle.mesh.specs.Cells.{Map, stateLength}
@@ -18,7 +17,7 @@ use Rattle.mesh.specs.declared.Sizes.{Sizes}
 use Rattle.mesh.specs.declared.Place.{Place}
 use Rattle.mesh.specs.declared.Next.{Next}
 use Rattle.mesh.specs.declared.Next.the-variants.{At, Edge}
-use Rattle.mesh.proofs.Tests.{T-and, T-or, T-implies, T-eq, T-all, T-cond, all-same, tried, bool-ext}
+use Rattle.mesh.proofs.Tests.{T-and, T-or, T-eq, T-all, T-cond, all-same, tried, bool-ext}
 use Rattle.mesh.proofs.Numbers.{number-lt, place-in}
 use Rattle.mesh.proofs.Steps.{next-in}
 use Rattle.mesh.proofs.Strides.{all-rows}

@@ -5,7 +5,7 @@ use native.Mathlib.Omega.{arith}
 use native.Mathlib.Nat.{mul-zero}
 use lib.ListN.{length}
 use Rattle.grids.specs.Layout.{Copied}
-use Rattle.grids.proofs.Layouts.{copied-none}
+use Rattle.grids.proofs.Layouts.{copied-none, all-copied}
 use Rattle.grids.proofs.copy_out.Statement.{statement}
 use Rattle.grids.proofs.copy_out.Tie as tie
 
@@ -39,7 +39,8 @@ returns : tie.Need-returns Inv-loop μ-loop
 returns c =
     let l = c .before .loop in
     let a = c .before .before .before .before .args in
-    subst (λ (n : ℕ). Copied (a .s) (a .grid .now) (a .table .now) (a .s .w * (a .s .h * n)) (l .table)) (omega arith) (l .inv .2)
+    all-copied (a .s) (a .grid .now) (a .table .now) (l .table) (c .before .before .before .before .pre .2)
+    (subst (λ (n : ℕ). Copied (a .s) (a .grid .now) (a .table .now) (a .s .w * (a .s .h * n)) (l .table)) (omega arith) (l .inv .2))
 
 pub copy-out-spec : {M : Type 1} → statement M
 copy-out-spec =

@@ -2,9 +2,13 @@
 use mathlib.Core.Path.{sym, _∙_}
 use denote.Ref.{now}
 use borrow.Author.Needs.{needs}
+use Rattle.grids.proofs.Layouts.{blank-long, blank-at}
 use Rattle.components.proofs.Outcomes.{sized, laid-untouched, laid-within, all-computed}
 use Rattle.components.proofs.entry.compute.Statement.{statement}
 use Rattle.components.proofs.entry.compute.Tie as tie
+
+grid-of-requires : tie.Need-grid-of-requires
+grid-of-requires c κs = let e = c .before .blank-grid .ensures in (blank-long 5220 _ e, blank-at 5220 _ e)
 
 label-requires : tie.Need-label-requires
 label-requires c κs =
@@ -13,7 +17,7 @@ label-requires c κs =
     let done = sym (m .grid-of .ensures .0) in
     let g = m .grid-of .last .1 .1 .1 .0 in
     let (w, d, h) = laid-within (a .s) (now (a .cells)) (a .orientation) (m .grid-of .result) done g (m .grid-of .ensures .1) in (
-      m .grid-of .kept .1 .1 .1 .0 ∙ m .before .before .blank-grid .ensures .0,
+      m .grid-of .kept .1 .1 .1 .0 ∙ blank-long 5220 _ (m .before .before .blank-grid .ensures),
       laid-untouched (a .s) (now (a .cells)) (a .orientation) (m .grid-of .result) done g (m .grid-of .ensures .1),
       rw (c .layers .ensures) w,
       rw (c .layers .ensures) d,
@@ -43,6 +47,6 @@ returns c =
 
 pub compute-spec : {M : Type 1} → statement M
 compute-spec =
-    tie.close (tie.spec (λ c κs. search needs) (λ c. search needs) (λ c κs. search needs) (λ c. search needs)
+    tie.close (tie.spec (λ c κs. search needs) (λ c. search needs) grid-of-requires (λ c. search needs)
     (λ c κs. search needs) label-requires (λ c. search needs) settle-requires (λ c κs. search needs) (λ c. search needs)
     returns)

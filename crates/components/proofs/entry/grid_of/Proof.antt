@@ -3,7 +3,7 @@ use mathlib.Core.Path.{_≡_, sym, ap, _∙_}
 use mathlib.Core.List.{List}
 use Prim.Native.Nat.{ℕ}
 use denote.Ref.{now}
-use lib.ListN.{length, take, drop}
+use lib.ListN.{length, getD, take, drop}
 use lib.Seq.{take-at}
 use Rattle.mesh.specs.Mesh.{nodes}
 use Rattle.mesh.specs.Cells.{mapOf}
@@ -13,7 +13,8 @@ use Rattle.mesh.specs.declared.Answer.the-variants.{Done}
 use Rattle.rules.proofs.Marks.{marks-length}
 use Rattle.rules.specs.Entry.{marksAnswer, marksWritten, marksOut}
 use Rattle.rules.proofs.Entry.{Granted, marks-granted}
-use Rattle.grids.specs.Grid.{gridAt}
+use Rattle.grids.specs.Grid.{gridOf}
+use Rattle.grids.proofs.Layouts.{blank-long, of-grid}
 use borrow.Author.Needs.{needs}
 use Rattle.components.proofs.entry.grid_of.Statement.{statement}
 use Rattle.components.proofs.entry.grid_of.Tie as tie
@@ -29,7 +30,7 @@ answered : (c : tie.After-marks) → let a = c .before .before .before .before .
     c .marks .result ≡ marksAnswer (a .s) (now (a .cells)) (a .orientation) 4096
 answered c =
     let a = c .before .before .before .before .before .args in
-    c .marks .ensures .0 ∙ ap (marksAnswer (a .s) (now (a .cells)) (a .orientation)) (c .before .before .blank-marks .ensures)
+    c .marks .ensures .0 ∙ ap (marksAnswer (a .s) (now (a .cells)) (a .orientation)) (blank-long 4096 _ (c .before .before .blank-marks .ensures))
 
 returns : tie.Need-returns
 returns c =
@@ -80,8 +81,11 @@ returns-2 : tie.Need-returns-2
 returns-2 c =
     let d = c .before .before .before .before .before in
     let a = d .before .before .before .before .before .before .before .before .before .args in
-    let told = d .before .enum-told .given .1 in
-    (answered (d .before .before .before .before), λ j. rw told (c .before .before .lay .ensures j ∙ ap (λ (l : List ℕ). gridAt (a .s) l j) (laid d)))
+    let told = d .before .enum-told .given .1 in (
+      answered (d .before .before .before .before),
+      λ j. rw told (ap (λ (g : List ℕ). getD g j 0) (c .before .before .lay .ensures ∙ ap (gridOf (a .s)) (laid d))
+          ∙ of-grid (a .s) (marksOf (mapOf (a .s) (now (a .cells))) (a .orientation)) (passed (d .before) .map .sized) j),
+    )
 
 pub grid-of-spec : {M : Type 1} → statement M
 grid-of-spec =

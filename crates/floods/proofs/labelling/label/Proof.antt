@@ -5,6 +5,7 @@ use Prim.Native.Nat.{ℕ, _-_, _+_, _*_, _≤_, _<_}
 use native.Mathlib.Omega.{arith}
 use borrow.Author.Needs.{needs}
 use lib.ListN.{length}
+use Rattle.grids.proofs.Layouts.{blank-long}
 use Rattle.floods.proofs.Turns.{Turn, turn-none, turn-past, turn-layer, turn-end, few-yet, flood-asks, record-asks, turn-more}
 use Rattle.floods.proofs.labelling.label.Statement.{statement}
 use Rattle.floods.proofs.labelling.label.Tie as tie
@@ -38,7 +39,7 @@ loop-holds : tie.Need-loop-holds Inv-loop2 μ-loop2 Inv-loop μ-loop
 loop-holds c = (
   omega arith,
   turn-none (c .before .before .before .before .pre .0) (c .before .before .before .before .pre .1)
-      (c .before .before .steps-around .ensures) (c .before .blank-grid .ensures .0) (c .blank-records .ensures),
+      (c .before .before .steps-around .ensures) (blank-long 5220 _ (c .before .blank-grid .ensures)) (c .blank-records .ensures),
 )
 
 mul-from : tie.Need-mul-from Inv-loop2 μ-loop2 Inv-loop μ-loop

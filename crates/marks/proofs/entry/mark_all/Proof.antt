@@ -1,14 +1,20 @@
 -- `marks::entry::mark_all` meets its contract: a sweep for each mark, then their joining. Assumes nothing.
-use mathlib.Core.Path.{_∙_, subst}
+use mathlib.Core.Path.{_≡_, ap, _∙_, subst}
+use mathlib.Core.List.{List}
 use Prim.Native.Nat.{ℕ}
 use native.Mathlib.Omega.{arith}
 use borrow.Author.Needs.{needs}
+use lib.ListN.{length, replicate, length-replicate}
 use denote.Ref.{now}
 use Rattle.mesh.proofs.Numbers.{nodes-le}
 use Rattle.layers.specs.Join.{MarksMade}
 use Rattle.marks.proofs.Written.{swept-bits, written}
 use Rattle.marks.proofs.entry.mark_all.Statement.{statement}
 use Rattle.marks.proofs.entry.mark_all.Tie as tie
+
+-- the bytes that are swept behind
+blank-long : (l : List ℕ) → l ≡ replicate 4096 0 → length l ≡ 4096
+blank-long l e = ap length e ∙ length-replicate {A = ℕ} 4096 0
 
 sweep-requires-2 : tie.Need-sweep-requires-2
 sweep-requires-2 c κs =
@@ -17,7 +23,7 @@ sweep-requires-2 c κs =
     record {
       sized = r .sized;
       cells-long = r .cells-long;
-      out-long = omega (arith, c .before .before .before .before .before .blank-marks .ensures, nodes-le (s .args .s) (r .sized));
+      out-long = omega (arith, blank-long _ (c .before .before .before .before .before .blank-marks .ensures), nodes-le (s .args .s) (r .sized));
     }
 
 join-requires : tie.Need-join-requires
@@ -31,7 +37,7 @@ join-requires c κs =
     rw n (
       omega (arith, r .cells-long),
       swept-bits _ _ _ (g .sweep2 .last .1 .1 .0) (g .sweep2 .ensures)
-          (omega (arith, f .before .before .blank-marks .ensures, g .sweep2 .kept .1 .1 .0, nodes-le (a .s) (r .sized))),
+          (omega (arith, blank-long _ (f .before .before .blank-marks .ensures), g .sweep2 .kept .1 .1 .0, nodes-le (a .s) (r .sized))),
       swept-bits _ _ _ (f .sweep .last .1 .1 .0) (f .sweep .ensures) (omega (arith, r .out-long, f .sweep .kept .1 .1 .0)),
     )
 
