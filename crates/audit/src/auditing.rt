@@ -47,7 +47,7 @@ fn audit_line(s: Sizes, cells: &[u8], t: Totals, line: &[u8], out: &mut [u8]) ->
 }
 
 // Prints the text for each line; the totals.
-pub fn audit_log(s: Sizes, cells: &[u8], log: &[u8], out: &mut [u8]) -> Totals
+pub(crate) fn audit_log(s: Sizes, cells: &[u8], log: &[u8], out: &mut [u8]) -> Totals
     requires { ⌜ (length (now log) ≤ 65536) × (41502 ≤ length (now out)) ⌝ }
     ensures { λ r. ⌜ r ≡ totalsOf s (now (cells .entry)) (now (log .entry)) ⌝ }
 {

@@ -10,7 +10,7 @@ ghost use Rattle.audit.specs.Audit.{plus, judge, nothingYet, totalsText,
 
 impl Totals {
     // Before the first line.
-    pub fn none() -> Totals
+    pub(crate) fn none() -> Totals
         ensures { λ r. ⌜ r ≡ nothingYet ⌝ }
     {
         Totals {
@@ -23,7 +23,13 @@ impl Totals {
     }
 
     // One line more.
-    pub fn plus(self, granted: usize, pathless: usize, refused: usize, unread: usize) -> Totals
+    pub(crate) fn plus(
+        self,
+        granted: usize,
+        pathless: usize,
+        refused: usize,
+        unread: usize,
+    ) -> Totals
         requires { ⌜ Few self 65536 × (granted ≤ 1) × (pathless ≤ 1) × (refused ≤ 1) × (unread ≤ 1) ⌝ }
         ensures { λ r. ⌜ r ≡ plus self granted pathless refused unread ⌝ }
     {
@@ -37,7 +43,7 @@ impl Totals {
     }
 
     // One transfer more.
-    pub fn judge(self, v: Verdict) -> Totals
+    pub(crate) fn judge(self, v: Verdict) -> Totals
         requires { ⌜ Few self 65536 ⌝ }
         ensures { λ r. ⌜ r ≡ judge self v ⌝ }
     {
@@ -54,7 +60,7 @@ impl Totals {
 }
 
 // The totals as text.
-pub fn tell_totals(t: Totals, out: &mut [u8]) -> usize
+pub(crate) fn tell_totals(t: Totals, out: &mut [u8]) -> usize
     requires { ⌜ 193 ≤ length (now out) ⌝ }
     ensures { λ r. ⌜ Said (now (out .entry)) 0 (totalsText t) (now (out .exit)) r × (r ≤ 193) ⌝ }
 {

@@ -33,7 +33,7 @@ stays on the nodes marked o, and E is not one of them: no direct route exists.
 }
 
 // All that stands above the lines of the log, which may be too long.
-pub fn top(s: Sizes, long: bool, out: &mut [u8]) -> usize
+pub(crate) fn top(s: Sizes, long: bool, out: &mut [u8]) -> usize
     requires { ⌜ 875 ≤ length (now out) ⌝ }
     ensures { λ r. ⌜ Said (now (out .entry)) 0 (topText s long) (now (out .exit)) r × (r ≤ 875) ⌝ }
 {

@@ -7,7 +7,7 @@ ghost use Rattle.text.specs.Text.{Said};
 ghost use Rattle.gossiping.specs.Text.{legend, roundLine, startLine, settledLine};
 
 // Which rounds have loss.
-pub fn legend(out: &mut [u8], at: usize) -> usize
+pub(crate) fn legend(out: &mut [u8], at: usize) -> usize
     requires { ⌜ at + 128 ≤ length (now out) ⌝ }
     ensures { λ n. ⌜ Said (now (out .entry)) at legend (now (out .exit)) n × (n ≤ at + 128) ⌝ }
 {
@@ -20,7 +20,7 @@ pub fn legend(out: &mut [u8], at: usize) -> usize
 }
 
 // What is told of a round.
-pub fn round_line(r: usize, news: usize, marks: usize, out: &mut [u8], at: usize) -> usize
+pub(crate) fn round_line(r: usize, news: usize, marks: usize, out: &mut [u8], at: usize) -> usize
     requires { ⌜ at + 128 ≤ length (now out) ⌝ }
     ensures { λ n. ⌜ Said (now (out .entry)) at (roundLine r news marks) (now (out .exit)) n × (n ≤ at + 128) ⌝ }
 {
@@ -41,7 +41,7 @@ pub fn round_line(r: usize, news: usize, marks: usize, out: &mut [u8], at: usize
 }
 
 // The first line of an orientation.
-pub fn start_line(o: usize, working: usize, out: &mut [u8], at: usize) -> usize
+pub(crate) fn start_line(o: usize, working: usize, out: &mut [u8], at: usize) -> usize
     requires { ⌜ at + 128 ≤ length (now out) ⌝ }
     ensures { λ n. ⌜ Said (now (out .entry)) at (startLine o working) (now (out .exit)) n × (n ≤ at + 128) ⌝ }
 {
@@ -49,7 +49,7 @@ pub fn start_line(o: usize, working: usize, out: &mut [u8], at: usize) -> usize
 }
 
 // Its last line.
-pub fn settled_line(r: usize, most: usize, out: &mut [u8], at: usize) -> usize
+pub(crate) fn settled_line(r: usize, most: usize, out: &mut [u8], at: usize) -> usize
     requires { ⌜ at + 128 ≤ length (now out) ⌝ }
     ensures { λ n. ⌜ Said (now (out .entry)) at (settledLine r most) (now (out .exit)) n × (n ≤ at + 128) ⌝ }
 {

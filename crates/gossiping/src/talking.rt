@@ -33,7 +33,7 @@ fn tell_round(s: Sizes, o: usize, r: usize, state: &[u8], out: &mut [u8], at: us
 }
 
 // A line for each round.
-pub fn talk(
+pub(crate) fn talk(
     s: Sizes,
     cells: &[u8],
     o: usize,

@@ -78,7 +78,7 @@ fn map_text(s: Sizes, cells: &[u8], out: &mut [u8]) -> usize
 }
 
 // The text for a file, at the front of the lent bytes; its length. A refusal is told as the report tells it.
-pub fn gossip(file: &[u8], out: &mut [u8]) -> usize
+pub(crate) fn gossip(file: &[u8], out: &mut [u8]) -> usize
     requires { ⌜ 60672 ≤ length (now out) ⌝ }
     ensures { λ r. ⌜ Said (now (out .entry)) 0 (gossip (now (file .entry))) (now (out .exit)) r × (r ≤ 60672) ⌝ }
 {

@@ -42,7 +42,7 @@ pub fn may_end(cell: u8) -> bool
 }
 
 // Is the byte no cell for node k? So far all nodes have the same cells.
-pub fn bad_cell(s: Sizes, k: usize, cell: u8) -> bool
+fn bad_cell(s: Sizes, k: usize, cell: u8) -> bool
     ensures { λ r. ⌜ r ≡ badCell s k cell ⌝ }
 {
     cell > CELL_LIMIT

@@ -22,7 +22,7 @@ fn say_way(r: Run, axis: u8, out: &mut [u8], at: usize) -> usize
 }
 
 // The line above the layers.
-pub fn say_ends(u: Place, v: Place, g: Between, out: &mut [u8], at: usize) -> usize
+pub(crate) fn say_ends(u: Place, v: Place, g: Between, out: &mut [u8], at: usize) -> usize
     requires { ⌜ at + 189 ≤ length (now out) ⌝ }
     ensures { λ r. ⌜ Said (now (out .entry)) at (endsText u v g) (now (out .exit)) r × (r ≤ at + 189) ⌝ }
 {

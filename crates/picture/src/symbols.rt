@@ -4,7 +4,8 @@ use mesh::Sizes;
 use routes::entries::reached;
 ghost use mathlib.Core.Path.{_≡_};
 ghost use Prim.Native.Nat.{_≤_};
-ghost use lib.ListN.{length, getD, take};
+ghost use mathlib.Core.List.{_++_};
+ghost use lib.ListN.{length, getD, drop};
 ghost use Rattle.mesh.specs.Mesh.{nodes};
 ghost use Rattle.mesh.specs.Cells.{mapOf};
 ghost use Rattle.mesh.specs.Fill.{Filled};
@@ -40,9 +41,9 @@ fn draw_over(cells: &[u8], start: usize, end: usize, drawn: &mut [u8])
 }
 
 // The symbols of all nodes, at the front of the lent bytes.
-pub fn draw(s: Sizes, cells: &[u8], start: usize, end: usize, drawn: &mut [u8])
+pub(crate) fn draw(s: Sizes, cells: &[u8], start: usize, end: usize, drawn: &mut [u8])
     requires { ⌜ (checkEnds s (now cells) start end ≡ Done) × (length (now drawn) ≡ 4096) ⌝ }
-    ensures { λ _. ⌜ take (nodes s) (now (drawn .exit)) ≡ symbols (mapOf s (now (cells .entry))) start end ⌝ }
+    ensures { λ _. ⌜ now (drawn .exit) ≡ symbols (mapOf s (now (cells .entry))) start end ++ drop (nodes s) (now (drawn .entry)) ⌝ }
 {
     reached(s, cells, start, end, drawn);
     draw_over(cells, start, end, drawn);

@@ -32,7 +32,7 @@ fn count_components(s: Sizes, cells: &[u8], o: usize) -> usize
 }
 
 // The figures of an orientation.
-pub fn figures(s: Sizes, cells: &[u8], o: usize) -> Figures
+pub(crate) fn figures(s: Sizes, cells: &[u8], o: usize) -> Figures
     requires { ⌜ (checkMap s (now cells) ≡ Done) × (o ≤ 7) ⌝ }
     ensures { λ r. ⌜ r ≡ figuresOf (mapOf s (now (cells .entry))) o ⌝ }
 {

@@ -16,7 +16,7 @@ pub fn first_line(s: Sizes, faulty: usize, out: &mut [u8], at: usize) -> usize
 }
 
 // A line for an orientation.
-pub fn octant_line(o: usize, f: Figures, out: &mut [u8], at: usize) -> usize
+pub(crate) fn octant_line(o: usize, f: Figures, out: &mut [u8], at: usize) -> usize
     requires { ⌜ at + 128 ≤ length (now out) ⌝ }
     ensures { λ r. ⌜ Said (now (out .entry)) at (octantLine o f) (now (out .exit)) r × (r ≤ at + 128) ⌝ }
 {

@@ -46,7 +46,7 @@ fn map_report(s: Sizes, cells: &[u8], out: &mut [u8]) -> usize
 }
 
 // The report on a file, at the front of the lent bytes; its length.
-pub fn report(file: &[u8], out: &mut [u8]) -> usize
+pub(crate) fn report(file: &[u8], out: &mut [u8]) -> usize
     requires { ⌜ 2048 ≤ length (now out) ⌝ }
     ensures { λ r. ⌜ Said (now (out .entry)) 0 (report (now (file .entry))) (now (out .exit)) r × (r ≤ 2048) ⌝ }
 {

@@ -62,7 +62,7 @@ impl Between {
     }
 
     // The box as one layer.
-    pub fn flat(self) -> Between
+    pub(crate) fn flat(self) -> Between
         ensures { λ r. ⌜ r ≡ flat self ⌝ }
     {
         let x = self.x;

@@ -10,7 +10,7 @@ ghost use Rattle.paths.specs.Differences.{wanted, hops};
 ghost use Rattle.sweeps.specs.Box.{largest};
 
 // The coordinate `to` less the coordinate `from`.
-pub fn difference(from: usize, to: usize) -> i32
+pub(crate) fn difference(from: usize, to: usize) -> i32
     requires { ⌜ (from < 16) × (to < 16) ⌝ }
     ensures { λ r. ⌜ (r ≡ subℕ to from) × (mag r < 16) ⌝ }
 {
@@ -18,7 +18,7 @@ pub fn difference(from: usize, to: usize) -> i32
 }
 
 // A difference without its sign.
-pub fn size(d: i32) -> usize
+pub(crate) fn size(d: i32) -> usize
     requires { ⌜ mag d < 16 ⌝ }
     ensures { λ r. ⌜ (r ≡ natAbs d) × (r ≤ 16) ⌝ }
 {
@@ -26,7 +26,7 @@ pub fn size(d: i32) -> usize
 }
 
 // The direction that lowers a difference: `up` or the one after it, or none.
-pub fn way(up: usize, d: i32) -> Wanted
+pub(crate) fn way(up: usize, d: i32) -> Wanted
     requires { ⌜ (up < 5) × (mag d < 16) ⌝ }
     ensures { λ r. ⌜ r ≡ wanted up d ⌝ }
 {

@@ -71,7 +71,7 @@ pub fn sweep_layer(
 }
 
 // Layer c, over the layer before it.
-pub fn over(s: Sizes, cells: &[u8], g: Between, c: usize, layer: &mut [u8])
+pub(crate) fn over(s: Sizes, cells: &[u8], g: Between, c: usize, layer: &mut [u8])
     requires { ⌜ Ready s (now cells) g × (length (now layer) ≡ 256) × (c ≤ g .z .steps) ⌝ }
     ensures { λ _. ⌜ Layers (mapOf s (now (cells .entry))) g c (c + 1) (now (layer .entry)) (now (layer .exit)) ⌝ }
 {
@@ -89,7 +89,7 @@ pub fn over(s: Sizes, cells: &[u8], g: Between, c: usize, layer: &mut [u8])
 }
 
 // The first n layers, each over the one before.
-pub fn sweep(s: Sizes, cells: &[u8], g: Between, n: usize, layer: &mut [u8])
+pub(crate) fn sweep(s: Sizes, cells: &[u8], g: Between, n: usize, layer: &mut [u8])
     requires { ⌜ Ready s (now cells) g × (length (now layer) ≡ 256) × (n ≤ g .z .steps) ⌝ }
     ensures { λ _. ⌜ Layers (mapOf s (now (cells .entry))) g 0 n (now (layer .entry)) (now (layer .exit)) ⌝ }
 {
@@ -101,7 +101,7 @@ pub fn sweep(s: Sizes, cells: &[u8], g: Between, n: usize, layer: &mut [u8])
 }
 
 // What there is before the first layer: only the corner is seen.
-pub fn seeded(corner: usize) -> [u8; 256]
+pub(crate) fn seeded(corner: usize) -> [u8; 256]
     requires { ⌜ corner < 256 ⌝ }
     ensures { λ r. ⌜ r ≡ seed corner ⌝ }
 {
@@ -111,7 +111,7 @@ pub fn seeded(corner: usize) -> [u8; 256]
 }
 
 // The byte of the node x, y and z steps nearer to the corner than t; 0 if no step is left.
-pub fn entered(
+pub(crate) fn entered(
     s: Sizes,
     g: Between,
     bytes: &[u8],

@@ -26,7 +26,7 @@ fn say_number(n: usize, out: &mut [u8], at: usize) -> usize
 }
 
 // Stores the line that names a file.
-pub fn name_line(word: &[u8], path: &[u8], out: &mut [u8]) -> usize
+pub(crate) fn name_line(word: &[u8], path: &[u8], out: &mut [u8]) -> usize
     requires { ⌜ length (now word) + length (now path) + 1 ≤ length (now out) ⌝ }
     ensures { λ r. ⌜ Said (now (out .entry)) 0 (nameLine (now (word .entry)) (now (path .entry))) (now (out .exit)) r
         × (r ≤ length (now (word .entry)) + length (now (path .entry)) + 1) ⌝ }

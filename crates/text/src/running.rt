@@ -2,11 +2,11 @@
 use crate::name_line;
 ghost use mathlib.Core.Path.{_≡_};
 ghost use Prim.Native.Nat.{_≤_};
-ghost use lib.ListN.{length};
+ghost use lib.ListN.{length, replicate};
 
 // Room for the longest file, and for one byte more, by which a longer one is told.
 pub fn blank_file() -> [u8; 65537]
-    ensures { λ r. ⌜ 65537 ≡ length r ⌝ }
+    ensures { λ r. ⌜ r ≡ replicate 65537 0 ⌝ }
 {
     [0; 65537]
 }

@@ -22,7 +22,7 @@ ghost use Rattle.sweeps.specs.Sweep.{Ready, Ends, WaysTo};
 ghost use Rattle.trails.specs.Spread.{Bits, Blank, Spread};
 
 // Every layer of a box, each at its own nodes, and the ways into the far corner.
-pub fn spread(s: Sizes, cells: &[u8], g: Between, bytes: &mut [u8]) -> Ways
+pub(crate) fn spread(s: Sizes, cells: &[u8], g: Between, bytes: &mut [u8]) -> Ways
     requires { ⌜ Ready s (now cells) g × (nodes s ≤ length (now bytes)) × Blank s (now bytes) ⌝ }
     ensures { λ r. ⌜ WaysTo (mapOf s (now (cells .entry))) g (far g) r × Spread (mapOf s (now (cells .entry))) g (g .z .steps + 1) (now (bytes .entry)) (now (bytes .exit)) ⌝ }
 {

@@ -1,6 +1,5 @@
 -- `picture::drawing::picture` meets its contract: the symbols of the map, drawn over the box between its ends. Assumes nothing.
 use mathlib.Core.Path.{_≡_, sym, ap, _∙_}
-use Prim.Native.Nat.{ℕ}
 use native.Mathlib.Omega.{arith}
 use borrow.Author.Needs.{needs}
 use denote.Ref.{now}
@@ -13,7 +12,7 @@ use Rattle.sweeps.proofs.Box.{in-largest, held}
 use Rattle.routes.proofs.Ends.{ends-granted}
 use Rattle.text.proofs.Saying.{said-as, said-then}
 use Rattle.picture.specs.Picture.{symbols}
-use Rattle.picture.proofs.Drawn.{symbols-length, picture-is}
+use Rattle.picture.proofs.Drawn.{symbols-length, drawn-taken, picture-is}
 use Rattle.picture.proofs.drawing.picture.Statement.{statement}
 use Rattle.picture.proofs.drawing.picture.Tie as tie
 
@@ -30,7 +29,9 @@ drawn-is : (c : tie.After-nodes) →
     let a = c .before .before .before .before .before .before .before .args in
     take (c .nodes .result) (c .before .before .draw .last .1 .1 .1 .1 .0) ≡ symbols (mapOf (a .s) (now (a .cells))) (a .start) (a .end)
 drawn-is c =
-    ap (λ (n : ℕ). take n (c .before .before .draw .last .1 .1 .1 .1 .0)) (c .nodes .ensures .0) ∙ c .before .before .draw .ensures
+    let a = c .before .before .before .before .before .before .before .args in
+    drawn-taken (mapOf (a .s) (now (a .cells))) (a .start) (a .end) (c .nodes .result) _ (c .before .before .draw .last .1 .1 .1 .1 .0)
+    (c .nodes .ensures .0) (c .before .before .draw .ensures)
 
 drawn-whole : (c : tie.After-nodes) →
     let a = c .before .before .before .before .before .before .before .args in
