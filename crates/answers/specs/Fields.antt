@@ -2,7 +2,7 @@
 -- "A granted call returns number 0 with its values. A refusal returns its number and 0 for every value."
 use mathlib.Core.Path.{_≡_}
 use Prim.Native.Nat.{ℕ, _<_}
-use Rattle.mesh.specs.Answers.{refusalBad, answerNo, answerBad, numberedNo, numberedBad, numberedValue, placedNo, placedAt, steppedNo, steppedThere, steppedAt}
+use Rattle.mesh.specs.Answers.{answerNo, answerBad, numberedNo, numberedBad, numberedValue, placedNo, placedAt, steppedNo, steppedThere, steppedAt}
 use Rattle.mesh.specs.declared.Answer.{Answer}
 use Rattle.mesh.specs.declared.Numbered.{Numbered}
 use Rattle.mesh.specs.declared.Place.{Place}

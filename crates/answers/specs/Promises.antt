@@ -6,7 +6,6 @@
 -- refusal, `give` the field `refusal`: that of the first that fails, and 0 where none does. `names-bad`: the field `bad` is the node number of the
 -- first bad cell where the refusal is 4, and else 0. On a refusal every other value is 0, and what was lent is as it was. Assumes nothing.
 use mathlib.Core.List.{List}
-use mathlib.Core.Path.{_≡_}
 use Prim.Native.Nat.{ℕ}
 use Rattle.mesh.specs.Mesh.{sizes, place}
 use Rattle.mesh.specs.Promise.{NumberPromise, PlacePromise, StepPromise}

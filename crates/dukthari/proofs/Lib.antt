@@ -1,5 +1,5 @@
-pub mod Impostors
 pub mod Small
 pub mod Groups
 pub mod Reading
+pub mod Promises
 pub mod Tight

@@ -40,7 +40,7 @@ use Rattle.talk.specs.State.{mapIn, pair, says}
 use Rattle.talk.specs.Sound.{sound, within}
 use Rattle.talk.specs.Hear.{news, outstandingOn, outstanding}
 use Rattle.talk.specs.Entries.{checkState, freshAnswer, soundAnswer, outstandingAnswer, checkWord, hearAnswer}
-use Rattle.answers.specs.Fields.{PlaceFits, PlacedFits, NumberedFits, VerdictFits, MapFits}
+use Rattle.answers.specs.Fields.{Fits, PlaceFits, PlacedFits, NumberedFits, VerdictFits, MapFits}
 
 -- a check passes on the bad cell of the first refusal
 pub bad-then : (n : ℕ) (a b : Answer) → answerBad a ≤ n → (a ≡ Done → answerBad b ≤ n) → answerBad (a andThen b) ≤ n
@@ -79,8 +79,8 @@ inside-fits S p (r, i) = (omega arith, omega arith, omega arith)
 
 -- a number that is granted is small, a refusal's bad cell too
 pub numbered-fits : (a : Answer) (n : ℕ) → answerBad a ≤ 65536 → (a ≡ Done → n ≤ 65536) → NumberedFits (numbered a n)
-numbered-fits Done n h k = k refl
-numbered-fits (Refused r) n h k = h
+numbered-fits Done n h k = let e = k refl in (omega arith, omega arith)
+numbered-fits (Refused r) n h k = (omega arith, omega arith)
 
 -- a sum of small numbers is small
 sum-le : (n b : ℕ) (f : ℕ → ℕ) → ((k : ℕ) → f k ≤ b) → sum n f ≤ b * n
@@ -118,11 +118,14 @@ bad-trailer file =
     (bad-and (unless long BadFile andThen unless marked BadFile) (inRange S) BadSizes refl
     (bad-and (unless long BadFile) marked BadFile refl (bad-unless 65536 long BadFile refl)))
 
-pub marks-fits : (S : Sizes) (cells : List ℕ) (o room : ℕ) → answerBad (marksAnswer S cells o room) ≤ 65536
+bad-marks : (S : Sizes) (cells : List ℕ) (o room : ℕ) → answerBad (marksAnswer S cells o room) ≤ 65536
 unfolding marksAnswer
-marks-fits S cells o room =
+bad-marks S cells o room =
     bad-and (checkMap S cells andThen checkOrientation o) (leb (nodes S) room) NoRoom refl
     (bad-and (checkMap S cells) (leb o 7) BadNumber refl (bad-map S cells))
+
+pub marks-fits : (S : Sizes) (cells : List ℕ) (o room : ℕ) → Fits (answerBad (marksAnswer S cells o room))
+marks-fits S cells o room = let h = bad-marks S cells o room in omega arith
 
 pub components-fits : (S : Sizes) (cells : List ℕ) (o tableRoom rowRoom : ℕ)
     → answerValue (componentsCheck S cells o tableRoom rowRoom) (howMany S (marksOf (mapOf S cells) o)) ≤ 1024
@@ -163,8 +166,8 @@ read-fits file room =
     (λ e. sized (split (checkTrailer file) fits (split (checkTrailer file andThen fits) (checkCells S (cellsIn file)) e .0) .0))
   where
     made : (a : Answer) (S : Sizes) → answerBad a ≤ 65536 → (a ≡ Done → InRange S) → MapFits (mapRead a S)
-    made Done S h k = k refl
-    made (Refused r) S h k = h
+    made Done S h k = let i = k refl in (omega arith, omega (arith, i .w-hi), omega (arith, i .h-hi), omega (arith, i .d-hi))
+    made (Refused r) S h k = (omega arith, omega arith, omega arith, omega arith)
 
 -- the bad cell that a check of two ends may name fits, and where the ends are granted the hops between them do
 ends-small : (S : Sizes) (cells : List ℕ) (s e : ℕ)
@@ -206,8 +209,8 @@ verdict-fits S cells s e =
     made (verdictCheck S cells s e) (hops (placeOf S s) (placeOf S e)) (offered (mapOf S cells) (placeOf S e) (placeOf S s)) b (λ g. omega (arith, k g))
   where
     made : (a : Answer) (h o : ℕ) → answerBad a ≤ 65536 → (a ≡ Done → h ≤ 65536) → VerdictFits (judged a h o)
-    made Done h o b k = k refl
-    made (Refused r) h o b k = b
+    made Done h o b k = let e = k refl in (omega arith, omega arith)
+    made (Refused r) h o b k = (omega arith, omega arith)
 
 pub route-fits : (S : Sizes) (cells : List ℕ) (s e room : ℕ) → NumberedFits (routeAnswer S cells s e room)
 unfolding routeAnswer routeCheck
@@ -237,21 +240,27 @@ bad-state : (S : Sizes) (long : ℕ) → answerBad (checkState S long) ≤ 65536
 unfolding checkState
 bad-state S long = bad-and (checkSizes S) (eqb long (stateLength S)) BadLength refl (bad-unless 65536 (inRange S) BadSizes refl)
 
-pub fresh-fits : (S : Sizes) (cells : List ℕ) (o room : ℕ) → answerBad (freshAnswer S cells o room) ≤ 65536
+bad-fresh : (S : Sizes) (cells : List ℕ) (o room : ℕ) → answerBad (freshAnswer S cells o room) ≤ 65536
 unfolding freshAnswer
-fresh-fits S cells o room =
+bad-fresh S cells o room =
     bad-and (checkState S room andThen checkMap S cells) (leb o 7) BadNumber refl
     (bad-then 65536 (checkState S room) (checkMap S cells) (bad-state S room) (λ _. bad-map S cells))
 
-pub sound-fits : (S : Sizes) (o : ℕ) (s : List ℕ) → answerBad (soundAnswer S o s) ≤ 65536
+pub fresh-fits : (S : Sizes) (cells : List ℕ) (o room : ℕ) → Fits (answerBad (freshAnswer S cells o room))
+fresh-fits S cells o room = let h = bad-fresh S cells o room in omega arith
+
+bad-sound : (S : Sizes) (o : ℕ) (s : List ℕ) → answerBad (soundAnswer S o s) ≤ 65536
 unfolding soundAnswer
-sound-fits S o s =
+bad-sound S o s =
     bad-and (checkState S (length s) andThen checkOrientation o) (sound S o s) Unsound refl
     (bad-and (checkState S (length s)) (leb o 7) BadNumber refl (bad-state S (length s)))
 
-pub hear-fits : (S : Sizes) (o k j w : ℕ) (s : List ℕ) → answerBad (hearAnswer S o k j w s) ≤ 65536
+pub sound-fits : (S : Sizes) (o : ℕ) (s : List ℕ) → Fits (answerBad (soundAnswer S o s))
+sound-fits S o s = let h = bad-sound S o s in omega arith
+
+bad-hear : (S : Sizes) (o k j w : ℕ) (s : List ℕ) → answerBad (hearAnswer S o k j w s) ≤ 65536
 unfolding hearAnswer
-hear-fits S o k j w s =
+bad-hear S o k j w s =
     let c1 = checkState S (length s) in
     let c2 = c1 andThen checkOrientation o in
     let c3 = c2 andThen checkNode S k in
@@ -266,10 +275,13 @@ hear-fits S o k j w s =
     (bad-and c3 (leb j 5) BadNumber refl
     (bad-and c2 (ltb k (nodes S)) BadNumber refl (bad-and c1 (leb o 7) BadNumber refl (bad-state S (length s))))))))
 
+pub hear-fits : (S : Sizes) (o k j w : ℕ) (s : List ℕ) → Fits (answerBad (hearAnswer S o k j w s))
+hear-fits S o k j w s = let h = bad-hear S o k j w s in omega arith
+
 pub outstanding-fits : (S : Sizes) (o : ℕ) (s : List ℕ) → NumberedFits (outstandingAnswer S o s)
 unfolding outstandingAnswer outstanding outstandingOn soundAnswer checkState
 outstanding-fits S o s =
-    numbered-fits (soundAnswer S o s) (outstanding S s) (sound-fits S o s) (λ e.
+    numbered-fits (soundAnswer S o s) (outstanding S s) (bad-sound S o s) (λ e.
     let c1 = checkState S (length s) in
     let c2 = c1 andThen checkOrientation o in
     let sized = sizes-granted S (split (checkSizes S) (unless (eqb (length s) (stateLength S)) BadLength) (split c1 (checkOrientation o) (split c2 (unless (sound S o s) Unsound) e .0) .0) .0) in

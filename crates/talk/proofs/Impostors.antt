@@ -25,7 +25,7 @@ use Rattle.talk.proofs.Computed.{computed}
 use Rattle.talk.proofs.Later.{later-refl, making-kept}
 use Rattle.talk.proofs.Promise.{made-promise}
 use Rattle.talk.proofs.Entries.{fresh-call, sound-call, outstanding-call, hear-call}
-use Rattle.talk.proofs.Unique.{fresh-unique, sound-unique, outstanding-unique, hear-unique}
+use Rattle.talk.proofs.Unique.{fresh-only, sound-only, outstanding-only, hear-only}
 
 -- ---- case 11: "4 × 4 × 1 with (2,1), (1,2), (0,2) faulty, orientation 0: fresh, 4 outstanding", node 4 hears 2 from direction 0, 5 outstanding
 
@@ -104,7 +104,7 @@ module _ (refusal bad : Sizes → List ℕ → ℕ → List ℕ → ℕ) (out : 
   fresh-is : (S : Sizes) (cells : List ℕ) (o : ℕ) (old : List ℕ) → refusal S cells o old ≡ answerNo (freshAnswer S cells o (length old))
   fresh-is S cells o old =
       let a = freshAnswer S cells o (length old) in
-      fresh-unique S cells o old (refusal S cells o old) (answerNo a) (bad S cells o old) (answerBad a) (out S cells o old) (freshOut S cells o old)
+      fresh-only S cells o old (refusal S cells o old) (answerNo a) (bad S cells o old) (answerBad a) (out S cells o old) (freshOut S cells o old)
       (meets S cells o old) (fresh-call S cells o old) .0
 
   pub fresh-refusing : ((S : Sizes) (cells : List ℕ) (o : ℕ) (old : List ℕ) → refusal S cells o old ≢ 0) → ⊥
@@ -169,7 +169,7 @@ module _ (refusal bad : Sizes → ℕ → ℕ → ℕ → ℕ → List ℕ → �
     (meets : (S : Sizes) (o k j w : ℕ) (s : List ℕ) → HearCall S o k j w s (refusal S o k j w s) (bad S o k j w s) (out S o k j w s)) where
   hear-is : (S : Sizes) (o k j w : ℕ) (s : List ℕ) → (refusal S o k j w s ≡ hearRefusal S o k j w s) × (out S o k j w s ≡ hearOut S o k j w s)
   hear-is S o k j w s =
-      let (n, _, e) = hear-unique S o k j w s (refusal S o k j w s) (hearRefusal S o k j w s) (bad S o k j w s) (answerBad (hearAnswer S o k j w s))
+      let (n, _, e) = hear-only S o k j w s (refusal S o k j w s) (hearRefusal S o k j w s) (bad S o k j w s) (answerBad (hearAnswer S o k j w s))
       (out S o k j w s) (hearOut S o k j w s) (meets S o k j w s) (hear-call S o k j w s) in
       (n, e)
 
@@ -198,7 +198,7 @@ module _ (refusal bad count : Sizes → ℕ → List ℕ → ℕ)
     (meets : (S : Sizes) (o : ℕ) (s : List ℕ) → OutstandingCall S o s (refusal S o s) (bad S o s) (count S o s)) where
   count-is : (S : Sizes) (o : ℕ) (s : List ℕ) → (refusal S o s ≡ countRefusal S o s) × (count S o s ≡ countOf S o s)
   count-is S o s =
-      let (n, _, e) = outstanding-unique S o s (refusal S o s) (countRefusal S o s) (bad S o s) (numberedBad (outstandingAnswer S o s))
+      let (n, _, e) = outstanding-only S o s (refusal S o s) (countRefusal S o s) (bad S o s) (numberedBad (outstandingAnswer S o s))
       (count S o s) (countOf S o s) (meets S o s) (outstanding-call S o s) in
       (n, e)
 
@@ -221,7 +221,7 @@ module _ (refusal bad : Sizes → ℕ → List ℕ → ℕ) (meets : (S : Sizes)
   sound-is : (S : Sizes) (o : ℕ) (s : List ℕ) → refusal S o s ≡ answerNo (soundAnswer S o s)
   sound-is S o s =
       let a = soundAnswer S o s in
-      sound-unique S o s (refusal S o s) (answerNo a) (bad S o s) (answerBad a) (meets S o s) (sound-call S o s) .0
+      sound-only S o s (refusal S o s) (answerNo a) (bad S o s) (answerBad a) (meets S o s) (sound-call S o s) .0
 
   pub sound-refusing : ((S : Sizes) (o : ℕ) (s : List ℕ) → refusal S o s ≢ 0) → ⊥
   sound-refusing f = f S 0 start (sound-is S 0 start ∙ sound-start)

@@ -4,20 +4,19 @@ use mathlib.Core.Logic.{_≢_, inl, inr}
 use mathlib.Core.List.{List}
 use Prim.Native.Nat.{ℕ, _+_, _-_, _*_, _/_, _%_, _<_}
 use native.Mathlib.Omega.{arith}
-use native.Mathlib.Decide.{ℕ-discrete, decLt}
+use native.Mathlib.Decide.{ℕ-discrete}
 use lib.Dec.{T}
 use lib.ListN.{length, getD}
 use lib.Seq.{ext-getD}
 use Rattle.mesh.specs.Mesh.{nodes, placeOf}
 use Rattle.mesh.specs.Steps.{next}
-use Rattle.mesh.specs.Cells.{Map, mapOf, badCell, wall, stateLength}
-use Rattle.mesh.specs.Order.{FirstBad, NamesBad}
+use Rattle.mesh.specs.Cells.{Map, mapOf, wall, stateLength}
 use Rattle.rules.specs.Marks.{has}
 use Rattle.mesh.specs.declared.Sizes.{Sizes}
 use Rattle.mesh.specs.declared.Next.{Next}
 use Rattle.mesh.specs.declared.Next.the-variants.{At, Edge}
-use Rattle.mesh.proofs.Tests.{T-no, tried, bool-ext}
-use Rattle.mesh.proofs.Order.{one-number}
+use Rattle.mesh.proofs.Tests.{tried, bool-ext}
+use Rattle.mesh.proofs.Order.{one-number, bad-one}
 use Rattle.rules.proofs.Bytes.{word-same}
 use Rattle.talk.specs.State.{own, heard, SameAt, faultyNode, worksNode}
 use Rattle.talk.specs.Sound.{SoundOn}
@@ -26,20 +25,6 @@ use Rattle.talk.specs.Calls.{freshChecks, FreshCall, soundChecks, SoundC
 use Rattle.talk.proofs.State.{talks-pair}
 use Rattle.talk.proofs.Same.{sound-on}
 use Rattle.talk.proofs.Rule.{ruled-same}
-
--- ---- the first bad cell
-
-first-one : (S : Sizes) (cells : List ℕ) (i k : ℕ) → FirstBad S cells i → FirstBad S cells k → i ≡ k
-first-one S cells i k p q = elim (decLt i k) [
-  | yes l ↦ absurd (T-no (badCell S i (getD cells i 0)) .0 (q .none-before i l) (p .bad))
-  | no n ↦ elim (decLt k i) [
-    | yes l ↦ absurd (T-no (badCell S k (getD cells k 0)) .0 (p .none-before k l) (q .bad))
-    | no h ↦ omega arith
-  ]
-]
-
-names-one : (S : Sizes) (cells : List ℕ) (n b c : ℕ) → NamesBad S cells n b → NamesBad S cells n c → b ≡ c
-names-one S cells n b c p q = elim (ℕ-discrete n 4) [ yes e ↦ first-one S cells b c (p .0 e) (q .0 e) | no h ↦ p .1 h ∙ sym (q .1 h) ]
 
 -- ---- the bytes of a fresh state
 
@@ -103,32 +88,32 @@ word-one S o k j w old s t p q = ext-getD 0 s t (p .long ∙ sym (q .long)) λ i
 alike : {A : Type 0} (x y : A) (n : ℕ) → (n ≡ 0 → x ≡ y) → (n ≢ 0 → x ≡ y) → x ≡ y
 alike x y n f g = elim (ℕ-discrete n 0) [ yes e ↦ f e | no h ↦ g h ]
 
-pub fresh-unique : (S : Sizes) (cells : List ℕ) (o : ℕ) (old : List ℕ) (n n′ b b′ : ℕ) (s t : List ℕ)
+pub fresh-only : (S : Sizes) (cells : List ℕ) (o : ℕ) (old : List ℕ) (n n′ b b′ : ℕ) (s t : List ℕ)
     → FreshCall S cells o old n b s → FreshCall S cells o old n′ b′ t → (n ≡ n′) × (b ≡ b′) × (s ≡ t)
-fresh-unique S cells o old n n′ b b′ s t p q =
+fresh-only S cells o old n n′ b b′ s t p q =
     let e = one-number (freshChecks S cells o old) n n′ (p .order) (q .order) in (
       e,
-      names-one S cells n b b′ (p .names-bad) (rw e (q .names-bad)),
+      bad-one S cells n b b′ (p .names-bad) (rw e (q .names-bad)),
       alike s t n
           (λ z. fresh-one (mapOf S cells) o s t (p .granted z) (q .granted (sym e ∙ z)))
           (λ z. p .refused z ∙ sym (q .refused λ y. z (e ∙ y))),
     )
 
-pub sound-unique : (S : Sizes) (o : ℕ) (s : List ℕ) (n n′ b b′ : ℕ) → SoundCall S o s n b → SoundCall S o s n′ b′ → (n ≡ n′) × (b ≡ b′)
-sound-unique S o s n n′ b b′ p q = (one-number (soundChecks S o s) n n′ (p .order) (q .order), p .no-bad ∙ sym (q .no-bad))
+pub sound-only : (S : Sizes) (o : ℕ) (s : List ℕ) (n n′ b b′ : ℕ) → SoundCall S o s n b → SoundCall S o s n′ b′ → (n ≡ n′) × (b ≡ b′)
+sound-only S o s n n′ b b′ p q = (one-number (soundChecks S o s) n n′ (p .order) (q .order), p .no-bad ∙ sym (q .no-bad))
 
-pub outstanding-unique : (S : Sizes) (o : ℕ) (s : List ℕ) (n n′ b b′ c c′ : ℕ) → OutstandingCall S o s n b c → OutstandingCall S o s n′ b′ c′
+pub outstanding-only : (S : Sizes) (o : ℕ) (s : List ℕ) (n n′ b b′ c c′ : ℕ) → OutstandingCall S o s n b c → OutstandingCall S o s n′ b′ c′
     → (n ≡ n′) × (b ≡ b′) × (c ≡ c′)
-outstanding-unique S o s n n′ b b′ c c′ p q =
+outstanding-only S o s n n′ b b′ c c′ p q =
     let e = one-number (soundChecks S o s) n n′ (p .order) (q .order) in (
       e,
       p .no-bad ∙ sym (q .no-bad),
       alike c c′ n (λ z. p .granted z ∙ sym (q .granted (sym e ∙ z))) (λ z. p .refused z ∙ sym (q .refused λ y. z (e ∙ y))),
     )
 
-pub hear-unique : (S : Sizes) (o k j w : ℕ) (old : List ℕ) (n n′ b b′ : ℕ) (s t : List ℕ)
+pub hear-only : (S : Sizes) (o k j w : ℕ) (old : List ℕ) (n n′ b b′ : ℕ) (s t : List ℕ)
     → HearCall S o k j w old n b s → HearCall S o k j w old n′ b′ t → (n ≡ n′) × (b ≡ b′) × (s ≡ t)
-hear-unique S o k j w old n n′ b b′ s t p q =
+hear-only S o k j w old n n′ b b′ s t p q =
     let e = one-number (hearChecks S o k j w old) n n′ (p .order) (q .order) in (
       e,
       p .no-bad ∙ sym (q .no-bad),
