@@ -9,7 +9,8 @@ use lib.Dec.{T, eqb, leb, ltb}
 use lib.ListN.{length}
 use Rattle.mesh.specs.Mesh.{InRange, inRange, nodes}
 use Rattle.mesh.specs.Cells.{mapOf, stateLength}
-use Rattle.mesh.specs.Answers.{refusalNo, refusalBad, answerNo, answerBad, numbered, numberedNo, numberedBad, numberedValue, _andThen_, unless, checkSizes, checkMap, checkOrientation}
+use Rattle.mesh.specs.Answers.{refusalNo, refusalBad, answerNo, answerBad, numbered, numberedNo, numberedBad, numberedValue}
+use Rattle.mesh.specs.Answers.{_andThen_, unless, checkSizes, checkMap, checkOrientation}
 use Rattle.mesh.specs.Order.{Check, _else_, _give_, NoneBad, NamesBad, mapChecks}
 use Rattle.rules.specs.Marks.{isWord}
 use Rattle.mesh.specs.declared.Sizes.{Sizes}
@@ -18,7 +19,8 @@ use Rattle.mesh.specs.declared.Refusal.the-variants.{BadSizes, BadLength, NoRoo
 use Rattle.mesh.specs.declared.Answer.{Answer}
 use Rattle.mesh.specs.declared.Answer.the-variants.{Done, Refused}
 use Rattle.mesh.proofs.Tests.{T-eq, T-le, T-lt}
-use Rattle.mesh.proofs.Order.{not-given, _decide_, gives, decides-then, decides-by, sizes-decided, orientation-decided, map-decided, bad-then, bad-unless, bad-map, not-zero, done-of}
+use Rattle.mesh.proofs.Order.{not-given, _decide_, gives, decides-then, decides-by, sizes-decided, orientation-decided, map-decided}
+use Rattle.mesh.proofs.Order.{bad-then, bad-unless, bad-map, not-zero, done-of}
 use Rattle.talk.specs.State.{heard, mapIn, pair, says}
 use Rattle.talk.specs.Sound.{within, sound, fresh}
 use Rattle.talk.specs.Hear.{changed, outstanding}
@@ -55,12 +57,15 @@ state-decided : (S : Sizes) (n : ℕ) → Decided (InRange S else 1 ∷ (n ≡ s
 unfolding checkState
 state-decided S n = sized S thenDecided tested (eqb n (stateLength S)) BadLength (T-eq n (stateLength S))
 
-fresh-decided : (S : Sizes) (cells : List ℕ) (o n : ℕ)
-    → Decided (InRange S else 1 ∷ (n ≡ stateLength S) else 2 ∷ mapChecks S cells ++ (o ≤ 7) else 5 ∷ []) (freshAnswer S cells o n)
+-- the sizes are asked twice
+abbrev askedFresh : Sizes → List ℕ → ℕ → ℕ → List Check
+askedFresh S cells o n = InRange S else 1 ∷ (n ≡ stateLength S) else 2 ∷ mapChecks S cells ++ (o ≤ 7) else 5 ∷ []
+
+fresh-decided : (S : Sizes) (cells : List ℕ) (o n : ℕ) → Decided (askedFresh S cells o n) (freshAnswer S cells o n)
 unfolding freshAnswer
 fresh-decided S cells o n = state-decided S n thenDecided mapped S cells thenDecided turned o
 
--- what has passed passes again
+-- but what has passed passes again
 again : {P Q : Type 0} {i j k : ℕ} (cs : List Check) (n : ℕ) → P else i ∷ Q else j ∷ P else k ∷ cs give n → P else i ∷ Q else j ∷ cs give n
 again cs n (inl a) = inl a
 again cs n (inr (p, inl a)) = inr (p, inl a)
@@ -123,7 +128,7 @@ fresh-call S cells o old =
     let a = freshAnswer S cells o (length old) in
     record {
       order = again ((length cells ≡ nodes S) else 2 ∷ NoneBad S cells else 4 ∷ (o ≤ 7) else 5 ∷ []) (answerNo a)
-          (gives (InRange S else 1 ∷ (length old ≡ stateLength S) else 2 ∷ mapChecks S cells ++ (o ≤ 7) else 5 ∷ []) a (fresh-decided S cells o (length old) .by));
+          (gives (askedFresh S cells o (length old)) a (fresh-decided S cells o (length old) .by));
       names-bad = fresh-bad S cells o (length old);
       granted = λ e. made-promise S cells o old e .0;
       refused = unchanged a (fresh (mapOf S cells) o) old;

@@ -100,7 +100,8 @@ works-4 = tt
 -- ---- making a fresh state
 
 module _ (refusal bad : Sizes → List ℕ → ℕ → List ℕ → ℕ) (out : Sizes → List ℕ → ℕ → List ℕ → List ℕ)
-    (meets : (S : Sizes) (cells : List ℕ) (o : ℕ) (old : List ℕ) → FreshCall S cells o old (refusal S cells o old) (bad S cells o old) (out S cells o old)) where
+    (meets : (S : Sizes) (cells : List ℕ) (o : ℕ) (old : List ℕ)
+    → FreshCall S cells o old (refusal S cells o old) (bad S cells o old) (out S cells o old)) where
   fresh-is : (S : Sizes) (cells : List ℕ) (o : ℕ) (old : List ℕ) → refusal S cells o old ≡ answerNo (freshAnswer S cells o (length old))
   fresh-is S cells o old =
       let a = freshAnswer S cells o (length old) in

@@ -44,7 +44,8 @@ module _ (m : Map) (o : ℕ) (fit : T (inRange (m .sizes))) (o-le : o ≤ 7) whe
         let g = later-grown m o fit o-le t u (later-sound t l) q in
         rw (takes m o fit o-le u (g .sound) k j w p v λ a x. g .owns (neighbour S k j) a (f a x))
 
-    held : (t : List ℕ) → Later S o s t → (u : List ℕ) → Later S o t u → (k j : ℕ) → T (pair m k j) → hearRefusal S o k j (says S t k j) u ≡ 0
+    held : (t : List ℕ) → Later S o s t → (u : List ℕ) → Later S o t u → (k j : ℕ) → T (pair m k j)
+        → hearRefusal S o k j (says S t k j) u ≡ 0
     held t l u q k j p =
         let r = pair-talks m k j p in
         let word = works-word m o t (later-sound t l) (neighbour S k j) (speaker-lt m k j r) (speaker-works m k j r) in

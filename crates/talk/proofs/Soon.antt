@@ -29,7 +29,8 @@ module _ (m : Map) (o : ℕ) (fit : T (inRange (m .sizes))) (o-le : o ≤ 7) whe
   round-shows a i s cs z f h k j t x =
       round-hears m o fit o-le s cs z f k j t a (shown-held m o a i s z h (neighbour S k j) (speaker-lt m k j (pair-talks m k j t)) x)
 
-  rounds-show : (a : Kind) (t : List ℕ) {n : ℕ} {s : List ℕ} (i : ℕ) → SoundOn m o s → FullRounds m o t n s → Shown m o a i s → Shown m o a (n + i) t
+  rounds-show : (a : Kind) (t : List ℕ) {n : ℕ} {s : List ℕ} (i : ℕ) → SoundOn m o s → FullRounds m o t n s → Shown m o a i s
+      → Shown m o a (n + i) t
   rounds-show a t i z none h = let e : i ≡ 0 + i = omega arith in subst (λ (k : ℕ). Shown m o a k t) e h
   rounds-show a t {s = s} i z (more {n = n} cs f r) h =
       let g = later-grown m o fit o-le s (run S o s cs) z (record { calls = cs; kept = f .kept; ends = refl }) in

@@ -29,7 +29,8 @@ use Rattle.talk.proofs.Rule.{ruled-same}
 -- ---- the bytes of a fresh state
 
 -- a state is the seven bytes of each of its nodes
-same-state : (S : Sizes) (s t : List ℕ) → length s ≡ stateLength S → length t ≡ stateLength S → ((k : ℕ) → k < nodes S → SameAt k s t) → s ≡ t
+same-state : (S : Sizes) (s t : List ℕ) → length s ≡ stateLength S → length t ≡ stateLength S
+    → ((k : ℕ) → k < nodes S → SameAt k s t) → s ≡ t
 same-state S s t l h f = ext-getD 0 s t (l ∙ sym h) λ i q.
     let e = f (i / 7) (omega arith) in
     elim (ℕ-discrete (i % 7) 0) [

@@ -60,7 +60,8 @@ module _ (m : Map) (o : ℕ) where
     -- a refused word changes nothing;
     pub refused : (t : List ℕ) → Later S o s t → (k j w : ℕ) → hearRefusal S o k j w t ≢ 0 → hearOut S o k j w t ≡ t
     -- a word that the speaker held at some moment is granted whenever it comes, and so is a weaker one;
-    pub held : (t : List ℕ) → Later S o s t → (u : List ℕ) → Later S o t u → (k j : ℕ) → T (pair m k j) → hearRefusal S o k j (says S t k j) u ≡ 0
+    pub held : (t : List ℕ) → Later S o s t → (u : List ℕ) → Later S o t u → (k j : ℕ) → T (pair m k j)
+        → hearRefusal S o k j (says S t k j) u ≡ 0
     pub weaker : (t : List ℕ) → Later S o s t → (u : List ℕ) → Later S o t u → (k j w : ℕ) → T (pair m k j) → T (isWord w)
         → w noMoreThan says S t k j → hearRefusal S o k j w u ≡ 0
     -- late or repeated, with no mark that was not heard before, it is granted and changes nothing;
