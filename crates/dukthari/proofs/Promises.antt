@@ -7,6 +7,8 @@ use contract.Lifetimes.{Lfts}
 use denote.Ref.{now}
 use denote.Triple.Clauses.{AtExit}
 use borrow.Fn.Kinds.{PK, RK, Out, Dens, resT, endedOf}
+use Rattle.mesh.specs.Mesh.{sizes}
+use Rattle.touching.specs.Entry.{componentsTable}
 use Rattle.answers.specs.Promises.{dk-number, dk-place, dk-step, dk-marks, dk-components, dk-verdict, dk-route, dk-reached}
 use Rattle.answers.specs.Promises.{dk-fresh, dk-sound, dk-outstanding, dk-hear, dk-read-map, dk-write-map}
 use Rattle.answers.proofs.Promises.{number-fields, place-fields, step-fields, marks-fields, components-fields, verdict-fields, route-fields, reached-fields}
@@ -70,7 +72,9 @@ marks-kept κs (w, (h, (d, (orientation, (cells, (out, _)))))) answer (_, (_, (_
 pub components-kept : Promised 3 components-reads.ps components-reads.r components-reads.Learnt
     (λ κs (w, (h, (d, (orientation, (cells, (table, (row, _))))))) answer (_, (_, (_, (_, (_, (table′, (row′, _))))))). dk-components w h d orientation (now cells) (now table) (now row) answer (now table′) (now row′))
 components-kept κs (w, (h, (d, (orientation, (cells, (table, (row, _))))))) answer (_, (_, (_, (_, (_, (table′, (row′, _))))))) (e, f, g) =
-    as-left (λ a t. dk-components w h d orientation (now cells) (now table) (now row) a t (now row′)) answer _ (now table′) _ e f (subst (λ r. dk-components w h d orientation (now cells) (now table) (now row) _ _ r) (sym g) (components-fields w h d orientation (now cells) (now table) (now row)))
+    let page = dk-components w h d orientation (now cells) (now table) (now row) in
+    let T = componentsTable (sizes w h d) (now cells) orientation (now table) (now row) in
+    as-left (λ a t. page a t (now row′)) answer _ (now table′) T e f (subst (page _ T) (sym g) (components-fields w h d orientation (now cells) (now table) (now row)))
 
 pub verdict-kept : Promised 1 verdict-kinds.ps verdict-kinds.r verdict-reads.Learnt
     (λ κs (w, (h, (d, (start, (end, (cells, _)))))) answer _. dk-verdict w h d start end (now cells) answer)
