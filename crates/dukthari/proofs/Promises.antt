@@ -1,18 +1,14 @@
 -- Every call keeps the page of the calls: whatever its contract allows, as the toolchain reads it from the code, is as answers/specs/Promises.antt says.
 -- The arguments stand in the order of the call's parameters. Assumes nothing.
-use mathlib.Core.List.{List}
 use mathlib.Core.Path.{_≡_, sym, subst}
-use Prim.Native.Nat.{ℕ}
-use contract.Lifetimes.{Lfts}
 use denote.Ref.{now}
-use denote.Triple.Clauses.{AtExit}
-use borrow.Fn.Kinds.{PK, RK, Out, Dens, resT, endedOf}
 use Rattle.mesh.specs.Mesh.{sizes}
 use Rattle.touching.specs.Entry.{componentsTable}
 use Rattle.answers.specs.Promises.{dk-number, dk-place, dk-step, dk-marks, dk-components, dk-verdict, dk-route, dk-reached}
 use Rattle.answers.specs.Promises.{dk-fresh, dk-sound, dk-outstanding, dk-hear, dk-read-map, dk-write-map}
 use Rattle.answers.proofs.Promises.{number-fields, place-fields, step-fields, marks-fields, components-fields, verdict-fields, route-fields, reached-fields}
 use Rattle.answers.proofs.Promises.{fresh-fields, sound-fields, outstanding-fields, hear-fields, read-map-fields, write-map-fields}
+use Rattle.dukthari.specs.Tight.{Promised}
 use Rattle.dukthari.proofs.dk_number.Kinds as number-kinds
 use Rattle.dukthari.proofs.dk_number.Reads as number-reads
 use Rattle.dukthari.proofs.dk_place.Kinds as place-kinds
@@ -40,10 +36,6 @@ use Rattle.dukthari.proofs.files.dk_read_map.Kinds as read-map-kinds
 use Rattle.dukthari.proofs.files.dk_read_map.Reads as read-map-reads
 use Rattle.dukthari.proofs.files.dk_write_map.Kinds as write-map-kinds
 use Rattle.dukthari.proofs.files.dk_write_map.Reads as write-map-reads
-
--- P holds of every outcome that a contract allows: of the arguments, the result, and the parameters at exit
-abbrev pub Promised : (n : ℕ) (ps : List (PK n)) (r : RK n) → Out n ps r → Out n ps r → Type 0
-Promised n ps r Allows P = (κs : Lfts n) (a : Dens κs ps) (x : resT r κs .Denot) (s : AtExit (endedOf n ps r) κs) → Allows κs a x s → P κs a x s
 
 -- what holds of the definitions' answer, and of what they leave, holds of what is equal to them
 as-answered : {A : Type 0} (P : A → Type 0) (x y : A) → x ≡ y → P y → P x

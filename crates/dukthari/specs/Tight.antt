@@ -1,5 +1,5 @@
--- 01, "How tight the contracts are", as a statement about a call's contract itself, as the toolchain reads it from the code. What is lent is found from
--- the call's own parameters. Assumes nothing.
+-- What is said of a call's contract itself, as the toolchain reads it from the code: that a promise holds of whatever it allows; and 01, "How tight the
+-- contracts are". What is lent is found from the call's own parameters. Assumes nothing.
 use mathlib.Core.List.{List, [], _∷_}
 use mathlib.Core.Path.{_≡_}
 use Prim.Native.Nat.{ℕ}
@@ -8,8 +8,12 @@ use contract.Lifetimes.{Lfts}
 use denote.Exit.{Exit, unchanged, leaves, Last}
 use denote.Ref.{RefT, now, at-last}
 use denote.Triple.End.{Fins}
-use denote.Triple.Clauses.{Lasts, atExit}
+use denote.Triple.Clauses.{Lasts, AtExit, atExit}
 use borrow.Fn.Kinds.{PK, RK, In, Out, Den, Dens, slotOf, slots, kepts, resT, endedOf}
+
+-- P holds of every outcome that a contract allows: of the arguments, the result, and the parameters at exit
+abbrev pub Promised : (n : ℕ) (ps : List (PK n)) (r : RK n) → Out n ps r → Out n ps r → Type 0
+Promised n ps r Allows P = (κs : Lfts n) (a : Dens κs ps) (x : resT r κs .Denot) (s : AtExit (endedOf n ps r) κs) → Allows κs a x s → P κs a x s
 
 -- What a call can leave of a parameter: nothing, where it is a number or is only read; the last value of what is lent to be written.
 pub data Lending : (D : Type 0) → Exit D → Type 1 where

@@ -1,6 +1,6 @@
 -- 01, "Map file", as relations between what a caller lends and the numbers and bytes that it gets: what is promised of reading a file and of
 -- writing one. proofs/Promise.antt shows that the definitions keep it, that nothing else does, and that reading gives back what was written.
--- Assumes nothing.
+-- `P else n` is a check, and checks `give` the number of the first that fails (mesh/specs/Order.antt). Assumes nothing.
 use mathlib.Core.List.{List, [], _∷_, _++_}
 use mathlib.Core.Logic.{_≢_}
 use mathlib.Core.Path.{_≡_}
@@ -43,7 +43,7 @@ Bytes l = (i : ℕ) → getD l i 0 < 256
 
 -- The bytes `old` are lent for a file's cells; a reading answers by its number, the bad cell and the sizes w, h, d, and leaves `new`.
 pub record Reads (file old : List ℕ) (refusal bad w h d : ℕ) (new : List ℕ) : Type 0 where
-  -- the first check that fails gives its number, none gives 0, and 4 names the first bad cell;
+  -- every refusal is given in its order and not otherwise, and 4 names the first bad cell;
   pub order : readChecks file (length old) give refusal
   pub names-bad : NamesBad (sizesIn file) (cellsIn file) refusal bad
   -- the file of a map, notes and cells and trailer, is read where there is room; and a row of bytes that is read is the file of a map;
@@ -52,16 +52,18 @@ pub record Reads (file old : List ℕ) (refusal bad w h d : ℕ) (new : List ℕ
   -- then the sizes are that map's, its cells stand in front, and "longer outputs keep their remaining places";
   pub given : refusal ≡ 0 → {S : Sizes} {cells : List ℕ} → MapFile S cells file
       → (w ≡ S .w) × (h ≡ S .h) × (d ≡ S .d) × (new ≡ cells ++ drop (nodes S) old)
-  -- "A refusal returns .. 0 for every value", and "no lent byte changes".
+  -- and "a refusal returns .. 0 for every value", "no lent byte changes".
   pub nothing : refusal ≢ 0 → (w ≡ 0) × (h ≡ 0) × (d ≡ 0) × (new ≡ old)
 
 -- The bytes `old` are lent for a file of the map S, cells; a writing answers by its number, the bad cell and a length n, and leaves `new`.
 pub record Writes (S : Sizes) (cells old : List ℕ) (refusal bad n : ℕ) (new : List ℕ) : Type 0 where
+  -- refusals likewise;
   pub order : writeChecks S cells (length old) give refusal
   pub names-bad : NamesBad S cells refusal bad
-  -- "A call that writes a file .. also returns its length." "The writer writes no notes."
+  -- "a call that writes a file .. also returns its length", "the writer writes no notes";
   pub size : refusal ≡ 0 → n ≡ length (fileOf S cells)
   pub written : refusal ≡ 0 → new ≡ fileOf S cells ++ drop n old
-  -- and what it writes is a file of the map
+  -- what it writes is a file of the map;
   pub a-file : refusal ≡ 0 → MapFile S cells (fileOf S cells)
+  -- and where it refuses, nothing is written.
   pub nothing : refusal ≢ 0 → (n ≡ 0) × (new ≡ old)
