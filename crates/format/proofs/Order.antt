@@ -1,7 +1,7 @@
 -- The checks of reading and of writing decide their answers in the order of the promise, and name the first bad cell. Assumes nothing.
 use mathlib.Core.Path.{_≡_, refl}
-use mathlib.Core.Logic.{_↔_, _≢_}
-use mathlib.Core.Bool.{Bool, true, false, _&&_}
+use mathlib.Core.Logic.{_↔_, _≢_, inl, inr}
+use mathlib.Core.Bool.{Bool, _&&_}
 use mathlib.Core.List.{List, [], _∷_, _++_}
 use Prim.Native.Nat.{ℕ, _≤_}
 use native.Mathlib.Omega.{arith}
@@ -14,18 +14,14 @@ use Rattle.mesh.specs.Order.{Check, _else_, AllPass, NoneBad, mapChecks, NamesB
 use Rattle.mesh.specs.declared.Sizes.{Sizes}
 use Rattle.mesh.specs.declared.Refusal.{Refusal}
 use Rattle.mesh.specs.declared.Refusal.the-variants.{BadSizes, NoRoom, BadFile}
+use Rattle.mesh.specs.declared.Answer.{Answer}
 use Rattle.mesh.specs.declared.Answer.the-variants.{Done}
 use Rattle.mesh.proofs.Tests.{T-and, T-eq, T-le, T-all}
-use Rattle.mesh.proofs.Order.{_decide_, all-pass, decides-then, decides-by, sizes-decided, room-decided, cells-decided, map-decided}
+use Rattle.mesh.proofs.Order.{_decide_, all-pass, decides-two, decides-then, decides-by, sizes-decided, room-decided, cells-decided, map-decided}
 use Rattle.mesh.proofs.Order.{bad-then, bad-unless, bad-cells, bad-map}
 use Rattle.format.specs.Format.{trailerLength, fileLimit, distance, trailerAt, hasMark, sizesIn, distanceIn, cellsIn}
 use Rattle.format.specs.Entry.{checkFrame, checkTrailer, readCheck, writeCheck}
 use Rattle.format.specs.Promise.{Framed, Reaches, readChecks, writeChecks}
-
--- two tests of one refusal are one test
-both : (a b : Bool) (r : Refusal) → unless a r andThen unless b r ≡ unless (a && b) r
-both true b r = refl
-both false b r = refl
 
 -- ---- reading
 
@@ -44,12 +40,15 @@ module _ (file : List ℕ) where
 
   pub frame-decided : Framed file else 11 ∷ [] decide checkFrame file
   unfolding checkFrame hasMark
-  frame-decided =
-      rw (both long marked BadFile)
-      (decides-by (long && marked) BadFile (
-        λ t. let ((l, f), (m, z)) = simp (T-and, T-all, T-le, T-eq) at t in record { least = l; fits = f; mark = m; zero-byte = z },
-        λ f. simp (T-and, T-all, T-le, T-eq) ((f .least, f .fits), (f .mark, f .zero-byte)),
-      ))
+  frame-decided = decides-told (
+    λ q. let ((l, f), (m, z)) = simp (T-and, T-all, T-le, T-eq) at q in record { least = l; fits = f; mark = m; zero-byte = z },
+    λ f. simp (T-and, T-all, T-le, T-eq) ((f .least, f .fits), (f .mark, f .zero-byte)),
+  )
+      (decides-two long marked BadFile (λ t. t, λ t. t) (λ t. t, λ t. t))
+    where
+      decides-told : {P Q : Type 0} {n : ℕ} {a : Answer} → P ↔ Q → P else n ∷ [] decide a → Q else n ∷ [] decide a
+      decides-told w (inl d) = inl (λ q. d .0 (w .1 q), d .1)
+      decides-told w (inr d) = inr (w .0 (d .0), d .1)
 
   reach-decided : Reaches file else 11 ∷ [] decide unless reaches BadFile
   reach-decided = decides-by reaches BadFile (

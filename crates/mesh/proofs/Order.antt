@@ -84,11 +84,12 @@ fails-at (b ∷ before) c after n t u z (inr a) =
     let (f, g) = fails-at before c after n (other (c .number) b before t .1) u z (a .1) in
     (λ e. let (p, q) = f e in ((a .0, p), q), λ p. g (p .0 .1, p .1))
 
--- two checks of one number are one check of both
-pub as-one : {P Q : Type 0} {k : ℕ} (cs : List Check) (n : ℕ) → P else k ∷ Q else k ∷ cs give n → (P × Q) else k ∷ cs give n
-as-one cs n (inl a) = inl (λ w. a .0 (w .0), a .1)
-as-one cs n (inr (p, inl a)) = inl (λ w. a .0 (w .1), a .1)
-as-one cs n (inr (p, inr a)) = inr ((p, a .0), a .1)
+-- all pass: those before, and the last
+pub last-passes : (cs : List Check) (c : Check) → AllPass (cs ++ c ∷ []) ↔ (AllPass cs × c .must)
+last-passes [] c = (λ w. (tt, w .0), λ w. (w .1, tt))
+last-passes (b ∷ cs) c =
+    let (f, g) = last-passes cs c in
+    (λ w. let (a, p) = f (w .1) in ((w .0, a), p), λ w. (w .0 .0, g (w .0 .1, w .1)))
 
 -- ---- answers that checks decide: done where all pass, else refused by the number of the first that fails
 
@@ -110,16 +111,33 @@ all-pass (c ∷ cs) a (inl d) =
     (λ e. let z : _≡_ {A = ℕ} 0 1 = cc in absurd (omega arith), λ p. absurd (d .0 (p .0)))
 all-pass (c ∷ cs) a (inr d) = let (f, g) = all-pass cs a (d .1) in (λ e. (d .0, f e), λ p. g (p .1))
 
--- one after another
+-- one after another: the second may rest on what has passed
+pub decides-after : (cs ds : List Check) (a b : Answer) → cs decide a → (AllPass cs → ds decide b) → cs ++ ds decide (a andThen b)
+decides-after [] ds a b d e = rw d (e tt)
+decides-after (c ∷ cs) ds a b (inl d) e = let (r, f, n) = d .1 in inl (d .0, (r, rw f, n))
+decides-after (c ∷ cs) ds a b (inr d) e = inr (d .0, decides-after cs ds a b (d .1) (λ p. e (d .0, p)))
+
 pub decides-then : (cs ds : List Check) (a b : Answer) → cs decide a → ds decide b → cs ++ ds decide (a andThen b)
-decides-then [] ds a b d e = rw d e
-decides-then (c ∷ cs) ds a b (inl d) e = let (r, f, n) = d .1 in inl (d .0, (r, rw f, n))
-decides-then (c ∷ cs) ds a b (inr d) e = inr (d .0, decides-then cs ds a b (d .1) e)
+decides-then cs ds a b d e = decides-after cs ds a b d (λ _. e)
 
 -- one test, which says that P holds
 pub decides-by : (t : Bool) (r : Refusal) {P : Type 0} → T t ↔ P → P else refusalNo r ∷ [] decide unless t r
 decides-by true r q = inr (q .0 tt, refl)
 decides-by false r q = inl (λ p. q .1 p, (r, refl, refl))
+
+-- two tests of one number, which are one check of both; and the same after others
+pub decides-two : (t u : Bool) (r : Refusal) {P Q : Type 0} → T t ↔ P → T u ↔ Q → (P × Q) else refusalNo r ∷ [] decide (unless t r andThen unless u r)
+decides-two true true r p q = inr ((p .0 tt, q .0 tt), refl)
+decides-two true false r p q = inl (λ w. q .1 (w .1), (r, refl, refl))
+decides-two false u r p q = inl (λ w. p .1 (w .0), (r, refl, refl))
+
+pub decides-both : (cs : List Check) (a : Answer) (t u : Bool) (r : Refusal) {P Q : Type 0} → cs decide a → T t ↔ P → T u ↔ Q
+    → cs ++ (P × Q) else refusalNo r ∷ [] decide (a andThen unless t r andThen unless u r)
+decides-both cs a t u r {P} {Q} d p q = rw (grouped a) (decides-then cs ((P × Q) else refusalNo r ∷ []) a (unless t r andThen unless u r) d (decides-two t u r p q))
+  where
+    grouped : (a : Answer) → a andThen unless t r andThen unless u r ≡ a andThen (unless t r andThen unless u r)
+    grouped Done = refl
+    grouped (Refused r) = refl
 
 pub sizes-decided : (S : Sizes) → InRange S else 1 ∷ [] decide checkSizes S
 sizes-decided S = decides-by (inRange S) BadSizes (λ t. sizes-of S (holds-true (inRange S) .0 t), λ r. holds-true (inRange S) .1 (sizes-is S r))

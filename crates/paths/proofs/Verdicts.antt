@@ -1,59 +1,30 @@
 -- What the checks of a route decide, in the promise's words: a list of checks decides each call's answer; all of them pass exactly if the question
 -- is in order, both ends work and, for a route, a path joins them; and the answer names the bad cell of the map. Assumes nothing.
 use mathlib.Core.Path.{_≡_, refl}
-use mathlib.Core.Logic.{_↔_, _≢_, inl, inr}
-use mathlib.Core.Bool.{Bool, true, false}
+use mathlib.Core.Logic.{_↔_, _≢_}
+use mathlib.Core.Bool.{Bool}
 use mathlib.Core.List.{List, [], _∷_, _++_}
 use Prim.Native.Nat.{ℕ, _+_, _<_, _≤_}
 use native.Mathlib.Omega.{arith}
-use lib.Dec.{T, leb, ltb}
+use lib.Dec.{leb, ltb}
 use Rattle.mesh.specs.Mesh.{nodes, placeOf}
 use Rattle.mesh.specs.Cells.{Map, mapOf, cellAt, mayEnd}
 use Rattle.mesh.specs.Answers.{refusalNo, refusalBad, answerNo, answerBad, _andThen_, unless, checkMap, checkNode, checkRoom}
 use Rattle.mesh.specs.Order.{Check, _else_, AllPass, mapChecks, NamesBad}
 use Rattle.mesh.proofs.Tests.{T-lt}
 use Rattle.mesh.proofs.Numbers.{place-in}
+use Rattle.mesh.proofs.Order.{decides-after, decides-both, last-passes}
 use Rattle.mesh.proofs.Order.{_decide_, decides-then, decides-by, room-decided, map-decided, bad-then, bad-unless, bad-map}
 use Rattle.mesh.specs.declared.Sizes.{Sizes}
 use Rattle.mesh.specs.declared.Place.{Place}
 use Rattle.mesh.specs.declared.Refusal.{Refusal}
 use Rattle.mesh.specs.declared.Refusal.the-variants.{NoRoom, BadNumber, FaultyEnd, NoPath}
 use Rattle.mesh.specs.declared.Answer.{Answer}
-use Rattle.mesh.specs.declared.Answer.the-variants.{Done, Refused}
 use Rattle.paths.specs.Differences.{hops}
 use Rattle.paths.specs.Paths.{leads}
 use Rattle.paths.specs.Entries.{checkEnd, checkEnds, checkPath, verdictCheck, routeLength, routeCheck, reachedCheck}
 use Rattle.paths.specs.Promise.{Asked, BothWork, Joined, endChecks, pathChecks}
 use Rattle.paths.proofs.Paths.{path-iff}
-
--- ---- checks in general
-
--- what comes after may rest on what has passed
-decides-after : (cs ds : List Check) (a b : Answer) → cs decide a → (AllPass cs → ds decide b) → cs ++ ds decide (a andThen b)
-decides-after [] ds a b d e = rw d (e tt)
-decides-after (c ∷ cs) ds a b (inl d) e = let (r, f, n) = d .1 in inl (d .0, (r, rw f, n))
-decides-after (c ∷ cs) ds a b (inr d) e = inr (d .0, decides-after cs ds a b (d .1) (λ p. e (d .0, p)))
-
--- two tests of one number are one check of both
-decides-both : (cs : List Check) (a : Answer) (t u : Bool) (r : Refusal) {P Q : Type 0} → cs decide a → T t ↔ P → T u ↔ Q
-    → cs ++ (P × Q) else refusalNo r ∷ [] decide (a andThen unless t r andThen unless u r)
-decides-both cs a t u r {P} {Q} d p q = rw (then-then a) (decides-then cs ((P × Q) else refusalNo r ∷ []) a (unless t r andThen unless u r) d (two t u p q))
-  where
-    then-then : (a : Answer) → a andThen unless t r andThen unless u r ≡ a andThen (unless t r andThen unless u r)
-    then-then Done = refl
-    then-then (Refused r) = refl
-
-    two : (t u : Bool) → T t ↔ P → T u ↔ Q → (P × Q) else refusalNo r ∷ [] decide (unless t r andThen unless u r)
-    two true true p q = inr ((p .0 tt, q .0 tt), refl)
-    two true false p q = inl (λ w. q .1 (w .1), (r, refl, refl))
-    two false u p q = inl (λ w. p .1 (w .0), (r, refl, refl))
-
--- all pass: those before, and the last
-last-passes : (cs : List Check) (P : Type 0) (k : ℕ) → AllPass (cs ++ P else k ∷ []) ↔ (AllPass cs × P)
-last-passes [] P k = (λ w. (tt, w .0), λ w. (w .1, tt))
-last-passes (c ∷ cs) P k =
-    let (f, g) = last-passes cs P k in
-    (λ w. let (a, p) = f (w .1) in ((w .0, a), p), λ w. (w .0 .0, g (w .0 .1, w .1)))
 
 module _ (S : Sizes) (cells : List ℕ) (s e : ℕ) where
   abbrev m : Map
@@ -82,17 +53,17 @@ module _ (S : Sizes) (cells : List ℕ) (s e : ℕ) where
 
   pub path-passes : AllPass (pathChecks S cells s e) ↔ (Asked S cells s e × Joined S cells s e)
   path-passes =
-      let (f, g) = last-passes (endChecks S cells s e) (Joined S cells s e) 10 in
+      let (f, g) = last-passes (endChecks S cells s e) (Joined S cells s e else 10) in
       (λ p. let (a, j) = f p in (ends-pass .0 a .0, j), λ w. let (q, j) = w in g (ends-pass .1 (q, (j .1 .start-may, j .1 .end-may)), j))
 
   pub route-passes : (room : ℕ) → AllPass (routeChecks room) ↔ (Asked S cells s e × Joined S cells s e × (hops from to + 1 ≤ room))
   route-passes room =
-      let (f, g) = last-passes (pathChecks S cells s e) (hops from to + 1 ≤ room) 3 in
+      let (f, g) = last-passes (pathChecks S cells s e) ((hops from to + 1 ≤ room) else 3) in
       (λ p. let (a, r) = f p in let (q, j) = path-passes .0 a in (q, j, r), λ w. let (q, j, r) = w in g (path-passes .1 (q, j), r))
 
   pub reached-passes : (room : ℕ) → AllPass (reachedChecks room) ↔ (Asked S cells s e × BothWork S cells s e × (nodes S ≤ room))
   reached-passes room =
-      let (f, g) = last-passes (endChecks S cells s e) (nodes S ≤ room) 3 in
+      let (f, g) = last-passes (endChecks S cells s e) ((nodes S ≤ room) else 3) in
       (λ p. let (a, r) = f p in let (q, b) = ends-pass .0 a in (q, b, r), λ w. let (q, b, r) = w in g (ends-pass .1 (q, b), r))
 
   -- ---- what each list decides
