@@ -18,8 +18,9 @@ use Rattle.mesh.proofs.Bits.{bit-one, bit-le}
 use Rattle.mesh.proofs.Numbers.{room, digit-lt, digit-eq, number-lt, number-eq}
 use Rattle.rules.proofs.Left.{flip-lt, to-go-in, to-go-back}
 use Rattle.rules.proofs.Marks.{shut-step}
+use Rattle.mesh.specs.declared.Sizes.{Sizes}
 use Rattle.mesh.specs.declared.Place.{Place}
-use Rattle.layers.specs.Sweep.{rowOf, rowAt, Row, Ahead, Right, rowsBefore, Swept, Stretch}
+use Rattle.layers.specs.Sweep.{rowOf, rowAt, Row, nextOnZ, Ahead, Right, rowsBefore, Swept, Stretch}
 use Rattle.layers.proofs.Turns.{or-false}
 
 -- the rows of the layer before
@@ -35,6 +36,15 @@ none-or (suc n) = inr (omega arith)
 
 pub last-or : (i n : ℕ) → i < n + 1 → (i ≡ n) ⊎ (i < n)
 last-or i n l = eq-or-lt-of-le (omega arith)
+
+-- what stands ahead on Z, with none and with some steps left
+module _ (S : Sizes) (x y o : ℕ) where
+  pub z-none : (c other : ℕ) → c ≡ 0 → nextOnZ S x y o c other ≡ other
+  z-none c other e = rw e
+
+  pub z-next : (c other : ℕ) → 0 < c → nextOnZ S x y o c other ≡ number S (place x y (flip (runsDown o Z) (S .d) (c - 1)))
+  z-next zero other l = absurd (omega arith)
+  z-next (suc c) other l = let e : suc c - 1 ≡ c = omega arith in rw e
 
 twice : (t y : Bool) → t && y && y ≡ t && y && true
 twice true true = refl

@@ -1,8 +1,9 @@
 -- How two sweeps become the mark bytes. Assumes nothing.
 use mathlib.Core.Bool.{Bool, cond}
-use mathlib.Core.List.{List}
+use mathlib.Core.List.{List, _++_}
 use Prim.Native.Nat.{ℕ, _+_, _*_, _<_, _≤_}
-use lib.ListN.{length, getD}
+use lib.ListN.{length, getD, drop}
+use Rattle.mesh.specs.Tools.{table}
 use Rattle.mesh.specs.Cells.{faultyCell}
 use Rattle.mesh.specs.Fill.{Filled}
 
@@ -13,7 +14,10 @@ markOf faulty ahead behind = cond faulty 1 (2 * ahead + 4 * behind)
 abbrev pub markFrom : List ℕ → List ℕ → List ℕ → ℕ → ℕ
 markFrom cells ahead behind i = markOf (faultyCell (getD cells i 0)) (getD ahead i 0) (getD behind i 0)
 
--- the first n bytes of old, which say what is shut ahead, have become marks
+-- the first n bytes of old, which say what is shut ahead, become marks; and so far as a loop has come
+abbrev pub marksMade : List ℕ → List ℕ → List ℕ → ℕ → List ℕ
+marksMade cells behind old n = table (markFrom cells old behind) n ++ drop n old
+
 abbrev pub MarksMade : List ℕ → List ℕ → List ℕ → List ℕ → ℕ → Type 0
 MarksMade cells behind old new n = Filled (λ i. i) (markFrom cells old behind) old new n
 

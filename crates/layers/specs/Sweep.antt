@@ -5,7 +5,8 @@ use mathlib.Core.Path.{_≡_}
 use Prim.Native.Nat.{ℕ, zero, suc, _+_, _*_, _<_, _≤_}
 use lib.ListN.{getD, length}
 use Rattle.mesh.specs.Tools.{bit, one}
-use Rattle.mesh.specs.Mesh.{nodes, number, InRange, Inside}
+use Rattle.mesh.specs.Mesh.{Z, place, nodes, number, InRange, Inside}
+use Rattle.mesh.specs.Steps.{runsDown}
 use Rattle.mesh.specs.Cells.{Map, faulty, faultyCell}
 use Rattle.rules.specs.Marks.{flip, toGo, shut}
 use Rattle.mesh.specs.Fill.{Filled}
@@ -34,6 +35,11 @@ pub record Ahead (out : List ℕ) (w k j : ℕ) (down : Bool) : Type 0 where
   pub long : w + j ≤ length out
   pub bits : (a : ℕ) → a < w → getD out (flip down w a + j) 0 ≤ 1
   pub apart : (x y : ℕ) → x < w → y < w → x + j ≡ y + k → ⊥
+
+-- the number of the node ahead on Z of the one at x and y with c steps left; where there is none, another node stands in for it
+abbrev pub nextOnZ : Sizes → ℕ → ℕ → ℕ → ℕ → ℕ → ℕ
+nextOnZ S x y o zero other = other
+nextOnZ S x y o (suc c) other = number S (place x y (flip (runsDown o Z) (S .d) c))
 
 -- ---- the bytes of all nodes
 

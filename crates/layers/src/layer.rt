@@ -4,14 +4,13 @@ use mesh::Place;
 use mesh::Sizes;
 ghost use mathlib.Core.Path.{_≡_};
 ghost use mathlib.Core.Bool.{_&&_, _||_};
-ghost use Prim.Native.Nat.{_+_, _-_, _*_, _≤_, _<_};
+ghost use Prim.Native.Nat.{_+_, _*_, _≤_, _<_};
 ghost use lib.ListN.{length};
 ghost use Rattle.mesh.specs.Tools.{bit, one};
-ghost use Rattle.mesh.specs.Mesh.{Z, InRange, place, number};
-ghost use Rattle.mesh.specs.Steps.{runsDown};
+ghost use Rattle.mesh.specs.Mesh.{InRange};
 ghost use Rattle.mesh.specs.Cells.{mapOf, faultyCell};
 ghost use Rattle.rules.specs.Marks.{flip};
-ghost use Rattle.layers.specs.Sweep.{Ahead, Row, Swept, Stretch, Room};
+ghost use Rattle.layers.specs.Sweep.{nextOnZ, Ahead, Row, Swept, Stretch, Room};
 
 // The coordinate with a steps left on an axis of n.
 pub fn coordinate(down: bool, n: usize, a: usize) -> usize
@@ -24,7 +23,7 @@ pub fn coordinate(down: bool, n: usize, a: usize) -> usize
 // The number of the node ahead on Z of the one at x and y with c steps left. Where Z does not count, another node stands in for it.
 pub fn ahead_z(s: Sizes, x: usize, y: usize, o: usize, c: usize, other: usize) -> usize
     requires { ⌜ InRange s × (x < s .w) × (y < s .h) × (c < s .d) ⌝ }
-    ensures { λ r. ⌜ (c ≡ 0 → r ≡ other) × (0 < c → r ≡ number s (place x y (flip (runsDown o Z) (s .d) (c - 1)))) ⌝ }
+    ensures { λ r. ⌜ r ≡ nextOnZ s x y o c other ⌝ }
 {
     if c == 0 {
         return other;

@@ -1,17 +1,17 @@
 -- What two sweeps and their joining leave is what the call is to write: the marks, then the bytes that were there. Assumes nothing.
 use mathlib.Core.Path.{_≡_, refl, sym, ap, _∙_, subst}
 use mathlib.Core.Bool.{Bool, true, false, cond, _||_}
-use mathlib.Core.List.{List}
+use mathlib.Core.List.{List, _++_}
 use Prim.Native.Nat.{ℕ, _+_, _*_, _<_, _≤_}
-use native.Mathlib.Omega.{arith}
-use lib.ListN.{length, getD}
-use Rattle.mesh.specs.Tools.{bit}
+use lib.ListN.{length, getD, drop}
+use Rattle.mesh.specs.Tools.{bit, table}
 use Rattle.mesh.specs.Mesh.{nodes, number, placeOf, Inside}
 use Rattle.mesh.specs.Steps.{reversed}
 use Rattle.mesh.specs.Cells.{Map, mapOf, faulty, faultyCell}
 use Rattle.rules.specs.Marks.{toGo, shut, stuck, byteOf, markAt, marksOf}
 use Rattle.mesh.proofs.Bits.{bit-le}
-use Rattle.mesh.proofs.Fill.{front}
+use Rattle.mesh.proofs.Tables.{length-table, getD-table}
+use Rattle.mesh.proofs.Fill.{front-at, front-kept, front}
 use Rattle.mesh.proofs.Numbers.{digit-lt, number-of, place-in}
 use Rattle.rules.proofs.Left.{to-go-in, to-go-back}
 use Rattle.rules.proofs.Marks.{marks-length, marks-at}
@@ -19,7 +19,7 @@ use Rattle.mesh.specs.declared.Sizes.{Sizes}
 use Rattle.mesh.specs.declared.Place.{Place}
 use Rattle.rules.specs.Entry.{marksWritten}
 use Rattle.layers.specs.Sweep.{Right, Stretch, Room}
-use Rattle.layers.specs.Join.{markOf, markFrom, Bits, MarksMade}
+use Rattle.layers.specs.Join.{markOf, markFrom, Bits, marksMade}
 
 -- a whole sweep has each node's byte at its number
 module _ (m : Map) (o : ℕ) (old new : List ℕ) (W : Stretch m o (m .sizes .h * m .sizes .d) old new) where
@@ -54,10 +54,22 @@ module _ (S : Sizes) (o : ℕ) (cells old mid none behind new : List ℕ) where
       rw (e, swept-at m o old mid A k l, swept-at m (reversed o) none behind B k l) (mark-shut (faulty m p) (stuck m o p) (stuck m (reversed o) p))
 
   pub written : Room S cells old → length new ≡ length old → Stretch m o (S .h * S .d) old mid
-      → Stretch m (reversed o) (S .h * S .d) none behind → MarksMade cells behind mid new (nodes S)
+      → Stretch m (reversed o) (S .h * S .d) none behind → new ≡ marksMade cells behind mid (nodes S)
       → new ≡ marksWritten S cells o old
   unfolding marksWritten
   written R long A B F =
       front (marksOf m o) old new (nodes S) (marks-length m o) (R .out-long) long
-      (λ k l. F .at k l ∙ made-at A B k l ∙ sym (marks-at m o (placeOf S k) (place-in S k l)) ∙ ap (λ (j : ℕ). getD (marksOf m o) j 0) (number-of S k))
-      (λ k l. F .kept k (λ j h x. omega arith) ∙ A .kept k l)
+      (λ k l. made k ∙ front-at v mid (nodes S) long-v k l ∙ getD-table f (nodes S) k 0 l ∙ made-at A B k l ∙ sym (marks-at m o (placeOf S k) (place-in S k l)) ∙ ap (λ (j : ℕ). getD (marksOf m o) j 0) (number-of S k))
+      (λ k l. made k ∙ front-kept v mid (nodes S) long-v k l ∙ A .kept k l)
+    where
+      f : ℕ → ℕ
+      f = markFrom cells mid behind
+
+      v : List ℕ
+      v = table f (nodes S)
+
+      long-v : length v ≡ nodes S
+      long-v = length-table f (nodes S)
+
+      made : (k : ℕ) → getD new k 0 ≡ getD (v ++ drop (nodes S) mid) k 0
+      made k = ap (λ (l : List ℕ). getD l k 0) F

@@ -25,19 +25,22 @@ use Rattle.paths.specs.Entries.{checkEnds, verdictCheck, routeCheck, routeAnswe
 use Rattle.paths.proofs.Offered.{route-length}
 use Rattle.sweeps.specs.Box.{between, reach}
 use Rattle.trails.specs.Spread.{Spread}
-use Rattle.trails.specs.Table.{trail, Routed}
+use Rattle.trails.specs.Table.{trail, routedAnswer, routedOut}
 use Rattle.trails.proofs.Trails.{route-trail}
 
 module _ (m : Map) (p e : Place) (old : List ℕ) where
-  pub routed-10 : leads m e p e ≡ false → Routed m p e old (NotNumbered NoPath) old
-  routed-10 l = record { answered = rw l; left = rw l }
+  abbrev pub Routed : Numbered → List ℕ → Type 0
+  Routed answer new = (answer ≡ routedAnswer m p e (length old)) × (new ≡ routedOut m p e old)
 
-  pub routed-3 : leads m e p e ≡ true → length old < hops p e + 1 → Routed m p e old (NotNumbered NoRoom) old
-  routed-3 l h = record { answered = rw (l, lt-leb (hops p e + 1) (length old) h); left = rw (l, lt-leb (hops p e + 1) (length old) h) }
+  pub routed-10 : leads m e p e ≡ false → Routed (NotNumbered NoPath) old
+  routed-10 l = rw l (refl, refl)
+
+  pub routed-3 : leads m e p e ≡ true → length old < hops p e + 1 → Routed (NotNumbered NoRoom) old
+  routed-3 l h = rw (l, lt-leb (hops p e + 1) (length old) h) (refl, refl)
 
   pub routed-0 : leads m e p e ≡ true → hops p e + 1 ≤ length old → (new : List ℕ) → new ≡ route m e p ++ drop (hops p e + 1) old
-      → Routed m p e old (Number (hops p e + 1)) new
-  routed-0 l h new f = record { answered = rw (l, le-leb (hops p e + 1) (length old) h); left = rw (l, le-leb (hops p e + 1) (length old) h) f }
+      → Routed (Number (hops p e + 1)) new
+  routed-0 l h new f = rw (l, le-leb (hops p e + 1) (length old) h) (refl, f)
 
 -- the way through the table is written in full, and nothing else
 pub route-written : (m : Map) (p e : Place) (p-in : Inside (m .sizes) p) (e-in : Inside (m .sizes) e) → T (mayEnd (cellAt m e))
@@ -62,4 +65,4 @@ module _ (S : Sizes) (cells : List ℕ) (s e : ℕ) (old : List ℕ) where
       → Routed (mapOf S cells) (placeOf S s) (placeOf S e) old answer new
       → (answer ≡ routeAnswer S cells s e (length old)) × (new ≡ routeOut S cells s e old)
   unfolding routeAnswer routeCheck verdictCheck routeWritten
-  route-past h answer new R = rw h (R .answered, R .left)
+  route-past h answer new R = rw h R

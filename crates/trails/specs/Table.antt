@@ -2,7 +2,6 @@
 -- the route is proved (proofs/Trails). Assumes nothing.
 use mathlib.Core.Bool.{cond}
 use mathlib.Core.List.{List, _++_}
-use mathlib.Core.Path.{_≡_}
 use Prim.Native.Nat.{ℕ, zero, suc, _+_}
 use lib.ListN.{length, drop}
 use Rattle.mesh.specs.Tools.{one}
@@ -37,6 +36,8 @@ trail S g table (suc i) = nearest S g table (trail S g table i)
 abbrev pub pathCheck : Map → Place → Place → ℕ → Answer
 pathCheck m p e room = checkPath m p e andThen checkRoom (hops p e + 1) room
 
-pub record Routed (m : Map) (p e : Place) (old : List ℕ) (answer : Numbered) (new : List ℕ) : Type 0 where
-  pub answered : answer ≡ numbered (pathCheck m p e (length old)) (hops p e + 1)
-  pub left : new ≡ granted (pathCheck m p e (length old)) (route m e p ++ drop (hops p e + 1) old) old
+abbrev pub routedAnswer : Map → Place → Place → ℕ → Numbered
+routedAnswer m p e room = numbered (pathCheck m p e room) (hops p e + 1)
+
+abbrev pub routedOut : Map → Place → Place → List ℕ → List ℕ
+routedOut m p e old = granted (pathCheck m p e (length old)) (route m e p ++ drop (hops p e + 1) old) old

@@ -18,7 +18,7 @@ ghost use Rattle.mesh.specs.Fill.{Filled};
 ghost use Rattle.sweeps.specs.Box.{largest, reach, Within};
 ghost use Rattle.sweeps.specs.Sweep.{Ends, Room};
 ghost use Rattle.trails.specs.Spread.{Blank};
-ghost use Rattle.trails.specs.Table.{nearest, trail, Routed};
+ghost use Rattle.trails.specs.Table.{nearest, trail, routedAnswer, routedOut};
 
 // Nothing is seen yet.
 fn blank() -> [u8; 4096]
@@ -74,7 +74,8 @@ fn follow(s: Sizes, g: Between, table: &[u8], n: usize, out: &mut [u16])
 // The route from p to e: refusals 10 and 3.
 pub fn write_route(s: Sizes, cells: &[u8], p: Place, e: Place, out: &mut [u16]) -> Numbered
     requires { ⌜ Ends s (now cells) p e ⌝ }
-    ensures { λ r. ⌜ Routed (mapOf s (now (cells .entry))) p e (now (out .entry)) r (now (out .exit)) ⌝ }
+    ensures { λ r. ⌜ (r ≡ routedAnswer (mapOf s (now (cells .entry))) p e (length (now (out .entry))))
+        × (now (out .exit) ≡ routedOut (mapOf s (now (cells .entry))) p e (now (out .entry))) ⌝ }
 {
     let h = hops(p, e);
     let n = h + 1;

@@ -1,11 +1,13 @@
 -- `layers::join::join` meets its contract: turn i reads byte i, which no turn before it wrote. Assumes nothing.
-use mathlib.Core.Path.{_≡_, refl, _∙_, subst}
+use mathlib.Core.Path.{_≡_, refl, sym, _∙_, subst}
 use Prim.Native.Nat.{ℕ, _-_, _≤_}
 use native.Mathlib.Omega.{arith}
 use denote.Ref.{now}
 use lib.ListN.{getD}
-use Rattle.mesh.proofs.Fill.{fill-none, fill-more}
-use Rattle.layers.specs.Join.{MarksMade}
+use Rattle.mesh.specs.Tools.{table}
+use Rattle.mesh.proofs.Tables.{length-table, getD-table}
+use Rattle.mesh.proofs.Fill.{fill-none, fill-more, front}
+use Rattle.layers.specs.Join.{markFrom, MarksMade}
 use Rattle.layers.proofs.join.join.Statement.{statement}
 use Rattle.layers.proofs.join.join.Tie as tie
 
@@ -44,7 +46,10 @@ returns c =
     let at = c .before in
     let a = at .before .before .before .before .args in
     let e : at .loop .i ≡ a .n = omega arith in
-    subst (λ (n : ℕ). MarksMade (now (a .cells)) (now (a .behind)) (now (a .out)) (at .loop .out) n) e (at .loop .inv .1)
+    let F = subst (λ (n : ℕ). MarksMade (now (a .cells)) (now (a .behind)) (now (a .out)) (at .loop .out) n) e (at .loop .inv .1) in
+    let v = markFrom (now (a .cells)) (now (a .out)) (now (a .behind)) in
+    front (table v (a .n)) (now (a .out)) (at .loop .out) (a .n) (length-table v (a .n)) (at .before .before .before .before .pre .2 .long) (F .size)
+    (λ k l. F .at k l ∙ sym (getD-table v (a .n) k 0 l)) (λ k l. F .kept k λ j h q. omega arith)
 
 pub join-spec : {M : Type 1} → statement M
 join-spec =

@@ -5,7 +5,7 @@ use native.Mathlib.Omega.{arith}
 use borrow.Author.Needs.{needs}
 use denote.Ref.{now}
 use Rattle.mesh.specs.Cells.{Map, mapOf}
-use Rattle.layers.proofs.Rows.{first, first-room, y-ahead, z-ahead, row-done}
+use Rattle.layers.proofs.Rows.{z-none, z-next, first, first-room, y-ahead, z-ahead, row-done}
 use Rattle.layers.proofs.layer.row.Statement.{statement}
 use Rattle.layers.proofs.layer.row.Tie as tie
 
@@ -33,7 +33,10 @@ j-is c =
 l-is : (c : tie.After-ahead-z) →
     let s = c .before .before .before .before .before .before .before .before in
     0 < s .args .c → c .ahead-z .result ≡ First s (s .args .b) (s .args .c - 1)
-l-is c d = rw (← c .before .before .before .before .before .coordinate .ensures .0) (omega (arith, c .ahead-z .ensures .1 d))
+l-is c d =
+    let a = c .before .before .before .before .before .before .before .before .args in
+    rw (← c .before .before .before .before .before .coordinate .ensures .0)
+    (omega (arith, c .ahead-z .ensures, z-next (a .s) 0 (c .before .before .before .before .before .coordinate .result) (a .o) (a .c) (c .before .number2 .result) d))
 
 row-at-requires : tie.Need-row-at-requires
 row-at-requires c κs =
@@ -47,7 +50,7 @@ row-at-requires c κs =
       omega (arith, r .out-long),
       y-ahead (M s) (a .o) (r .sized) (a .b) (a .c) (s .pre .2) (s .pre .3) (now (a .out)) (r .out-long) (s .pre .5) (s .pre .1),
       z-ahead (M s) (a .o) (r .sized) (a .b) (a .c) (s .pre .2) (s .pre .3) (now (a .out)) (r .out-long) (s .pre .5) (s .pre .1) (z .ahead-z .result)
-          (s .pre .4) (λ e. z .ahead-z .ensures .0 e ∙ j-is z) (l-is z),
+          (s .pre .4) (λ e. z .ahead-z .ensures ∙ z-none _ _ _ _ _ _ e ∙ j-is z) (l-is z),
     )
 
 returns : tie.Need-returns
@@ -58,7 +61,7 @@ returns c =
     let a = s .args in
     let r = s .pre .0 in
     row-done (M s) (a .o) (r .sized) (a .b) (a .c) (s .pre .2) (s .pre .3) (now (a .out)) (r .out-long) (s .pre .5) (s .pre .1) (z .ahead-z .result)
-    (s .pre .4) (λ e. z .ahead-z .ensures .0 e ∙ j-is z) (l-is z) (q .row-at .last .1 .0) (rw (k-is z, j-is z) at (q .row-at .ensures))
+    (s .pre .4) (λ e. z .ahead-z .ensures ∙ z-none _ _ _ _ _ _ e ∙ j-is z) (l-is z) (q .row-at .last .1 .0) (rw (k-is z, j-is z) at (q .row-at .ensures))
 
 pub row-spec : {M : Type 1} → statement M
 row-spec =

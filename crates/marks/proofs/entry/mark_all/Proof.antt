@@ -1,5 +1,5 @@
 -- `marks::entry::mark_all` meets its contract: a sweep for each mark, then their joining. Assumes nothing.
-use mathlib.Core.Path.{_≡_, ap, _∙_, subst}
+use mathlib.Core.Path.{_≡_, ap, _∙_}
 use mathlib.Core.List.{List}
 use Prim.Native.Nat.{ℕ}
 use native.Mathlib.Omega.{arith}
@@ -7,7 +7,7 @@ use borrow.Author.Needs.{needs}
 use lib.ListN.{length, replicate, length-replicate}
 use denote.Ref.{now}
 use Rattle.mesh.proofs.Numbers.{nodes-le}
-use Rattle.layers.specs.Join.{MarksMade}
+use Rattle.layers.specs.Join.{marksMade}
 use Rattle.marks.proofs.Written.{swept-bits, written}
 use Rattle.marks.proofs.entry.mark_all.Statement.{statement}
 use Rattle.marks.proofs.entry.mark_all.Tie as tie
@@ -51,8 +51,7 @@ returns c =
     let a = s .args in
     written (a .s) (a .o) (now (a .cells)) (now (a .out)) (f .sweep .last .1 .1 .0) _ (g .sweep2 .last .1 .1 .0) (k .join .last .1 .1 .0)
     (s .pre .0) (k .join .kept .1 .1 .0 ∙ f .sweep .kept .1 .1 .0) (f .sweep .ensures) (g .sweep2 .ensures)
-    (subst (λ (n : ℕ). MarksMade (now (a .cells)) (g .sweep2 .last .1 .1 .0) (f .sweep .last .1 .1 .0) (k .join .last .1 .1 .0) n) (n .nodes .ensures .0)
-    (k .join .ensures))
+    (k .join .ensures ∙ ap (marksMade (now (a .cells)) (g .sweep2 .last .1 .1 .0) (f .sweep .last .1 .1 .0)) (n .nodes .ensures .0))
 
 pub mark-all-spec : {M : Type 1} → statement M
 mark-all-spec =

@@ -1,5 +1,5 @@
 -- `marks::sweep::any_blocked` meets its contract: the stretches that it hands on hold the neighbours ahead. Assumes nothing.
-use mathlib.Core.Path.{_≡_, subst}
+use mathlib.Core.Path.{_≡_, _∙_, subst}
 use Prim.Native.Nat.{ℕ, _/_, _%_}
 use native.Mathlib.Omega.{arith}
 use borrow.Author.Needs.{needs}
@@ -7,6 +7,7 @@ use denote.Ref.{now}
 use Rattle.mesh.specs.Tools.{bit, one}
 use Rattle.mesh.specs.Cells.{mapOf}
 use Rattle.mesh.proofs.Bits.{bit-of}
+use Rattle.layers.proofs.Rows.{z-none, z-next}
 use Rattle.marks.specs.Clear.{Apart}
 use Rattle.marks.proofs.Clear.{Begun, all-fit, clear}
 use Rattle.marks.proofs.sweep.any_blocked.Statement.{statement}
@@ -43,8 +44,8 @@ begun c =
     record {
       p-is = rw (← z, ← odd (a .o), ← odd (a .o / 2)) (c .before .before .number .ensures .0);
       q-is = rw (← z, ← odd (a .o), ← odd (a .o / 2)) (c .before .number2 .ensures .0);
-      flat-r = c .ahead-z .ensures .0;
-      deep-r = λ d. rw (← odd (a .o), ← odd (a .o / 2)) (c .ahead-z .ensures .1 d);
+      flat-r = λ e. c .ahead-z .ensures ∙ z-none _ _ _ _ _ _ e;
+      deep-r = λ d. rw (← odd (a .o), ← odd (a .o / 2)) (c .ahead-z .ensures ∙ z-next _ _ _ _ _ _ d);
     }
 
 meet-requires : tie.Need-meet-requires
