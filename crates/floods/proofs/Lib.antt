@@ -3,3 +3,4 @@ pub mod Boxes
 pub mod Labels
 pub mod Few
 pub mod Turns
+pub mod Once

@@ -1,3 +1,4 @@
 pub mod Turns
 pub mod Rows
 pub mod Layers
+pub mod Once

@@ -1,6 +1,7 @@
 pub mod Box
 pub mod Runs
 pub mod Rows
+pub mod Once
 pub mod Waves
 pub mod Layers
 pub mod Entered

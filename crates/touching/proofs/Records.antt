@@ -96,7 +96,7 @@ module _ (S : Sizes) (marks : List ℕ) where
 
 -- ---- and nothing else keeps it
 
-bounds-only : {Has : ℕ → Type 0} {f : ℕ → ℕ} {lo hi lo′ hi′ : ℕ} → Bounds Has f lo hi → Bounds Has f lo′ hi′ → (lo ≡ lo′) × (hi ≡ hi′)
+pub bounds-only : {Has : ℕ → Type 0} {f : ℕ → ℕ} {lo hi lo′ hi′ : ℕ} → Bounds Has f lo hi → Bounds Has f lo′ hi′ → (lo ≡ lo′) × (hi ≡ hi′)
 bounds-only e f =
     let (a, m, p) = e .at-lo in
     let (b, n, q) = f .at-lo in
