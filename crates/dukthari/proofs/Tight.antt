@@ -101,7 +101,7 @@ fresh-tight = record {
   every = λ κs a. tt;
   one = λ κs a x y ws vs h k. (h .0 ∙ sym (k .0), λ i. (tt, (tt, (tt, (tt, (tt, ((h .1 ∙ sym (k .1)) i, tt)))))));
   lending = λ κs. (read-only, (read-only, (read-only, (read-only, (read-only, (lent, tt))))));
-  kept = λ κs a x ws h n. (tt, (tt, (tt, (tt, (tt, (fresh-kept κs a x (atExit (endedOf 2 fresh-kinds.ps fresh-kinds.r) κs a ws) h .refused n, tt))))));
+  kept = λ κs a x ws h n. (tt, (tt, (tt, (tt, (tt, (fresh-kept κs a x (atExit (endedOf 2 fresh-kinds.ps fresh-kinds.r) κs a ws) h .nothing n, tt))))));
 }
 
 pub sound-tight : Tight 1 sound-kinds.ps sound-kinds.r sound-reads.Asked sound-reads.Learnt (λ κs x. x .refusal)
@@ -125,7 +125,7 @@ hear-tight = record {
   every = λ κs a. tt;
   one = λ κs a x y ws vs h k. (h .0 ∙ sym (k .0), λ i. (tt, (tt, (tt, (tt, (tt, (tt, (tt, ((h .1 ∙ sym (k .1)) i, tt)))))))));
   lending = λ κs. (read-only, (read-only, (read-only, (read-only, (read-only, (read-only, (read-only, (lent, tt))))))));
-  kept = λ κs a x ws h n. (tt, (tt, (tt, (tt, (tt, (tt, (tt, (hear-kept κs a x (atExit (endedOf 1 hear-kinds.ps hear-kinds.r) κs a ws) h .refused n, tt))))))));
+  kept = λ κs a x ws h n. (tt, (tt, (tt, (tt, (tt, (tt, (tt, (hear-kept κs a x (atExit (endedOf 1 hear-kinds.ps hear-kinds.r) κs a ws) h .nothing n, tt))))))));
 }
 
 pub read-map-tight : Tight 2 read-map-kinds.ps read-map-kinds.r read-map-reads.Asked read-map-reads.Learnt (λ κs x. x .refusal)

@@ -131,7 +131,7 @@ fresh-call S cells o old =
           (gives (askedFresh S cells o (length old)) a (fresh-decided S cells o (length old) .by));
       names-bad = fresh-bad S cells o (length old);
       granted = λ e. made-promise S cells o old e .0;
-      refused = unchanged a (fresh (mapOf S cells) o) old;
+      nothing = unchanged a (fresh (mapOf S cells) o) old;
     }
 
 pub sound-call : (S : Sizes) (o : ℕ) (s : List ℕ) → let a = soundAnswer S o s in SoundCall S o s (answerNo a) (answerBad a)
@@ -147,8 +147,8 @@ outstanding-call S o s = go (soundAnswer S o s) (sound-call S o s)
   where
     go : (a : Answer) → SoundCall S o s (answerNo a) (answerBad a)
         → let n = numbered a (outstanding S s) in OutstandingCall S o s (numberedNo n) (numberedBad n) (numberedValue n)
-    go Done c = record { order = c .order; no-bad = refl; granted = λ _. refl; refused = λ n. absurd (n refl) }
-    go (Refused r) c = record { order = c .order; no-bad = c .no-bad; granted = λ e. absurd (not-zero r e); refused = λ _. refl }
+    go Done c = record { order = c .order; no-bad = refl; granted = λ _. refl; nothing = λ n. absurd (n refl) }
+    go (Refused r) c = record { order = c .order; no-bad = c .no-bad; granted = λ e. absurd (not-zero r e); nothing = λ _. refl }
 
 word-heard : (S : Sizes) (o k j w : ℕ) (s : List ℕ) → hearAnswer S o k j w s ≡ Done → WordHeard S o k j w s (changed S o k j w s)
 word-heard S o k j w s d =
@@ -173,5 +173,5 @@ hear-call S o k j w s =
       order = order;
       no-bad = none-named a (not-given (hearChecks S o k j w s) (answerNo a) 4 tt (λ e. omega arith) order);
       granted = λ e. rw (written a (changed S o k j w s) s e) (word-heard S o k j w s (done-of a e));
-      refused = unchanged a (changed S o k j w s) s;
+      nothing = unchanged a (changed S o k j w s) s;
     }

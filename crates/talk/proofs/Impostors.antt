@@ -185,7 +185,7 @@ module _ (refusal bad : Sizes → ℕ → ℕ → ℕ → ℕ → List ℕ → �
 
   -- one that refuses everything changes nothing
   pub hears-refusing : ((S : Sizes) (o k j w : ℕ) (s : List ℕ) → refusal S o k j w s ≢ 0) → ⊥
-  hears-refusing f = hears-untouched λ S o k j w s. meets S o k j w s .refused (f S o k j w s)
+  hears-refusing f = hears-untouched λ S o k j w s. meets S o k j w s .nothing (f S o k j w s)
 
   pub hears-constant : (n : ℕ) → ((S : Sizes) (o k j w : ℕ) (s : List ℕ) → refusal S o k j w s ≡ n) → ⊥
   hears-constant n f =

@@ -97,7 +97,7 @@ fresh-only S cells o old n n′ b b′ s t p q =
       bad-one S cells n b b′ (p .names-bad) (rw e (q .names-bad)),
       alike s t n
           (λ z. fresh-one (mapOf S cells) o s t (p .granted z) (q .granted (sym e ∙ z)))
-          (λ z. p .refused z ∙ sym (q .refused λ y. z (e ∙ y))),
+          (λ z. p .nothing z ∙ sym (q .nothing λ y. z (e ∙ y))),
     )
 
 pub sound-only : (S : Sizes) (o : ℕ) (s : List ℕ) (n n′ b b′ : ℕ) → SoundCall S o s n b → SoundCall S o s n′ b′ → (n ≡ n′) × (b ≡ b′)
@@ -109,7 +109,7 @@ outstanding-only S o s n n′ b b′ c c′ p q =
     let e = one-number (soundChecks S o s) n n′ (p .order) (q .order) in (
       e,
       p .no-bad ∙ sym (q .no-bad),
-      alike c c′ n (λ z. p .granted z ∙ sym (q .granted (sym e ∙ z))) (λ z. p .refused z ∙ sym (q .refused λ y. z (e ∙ y))),
+      alike c c′ n (λ z. p .granted z ∙ sym (q .granted (sym e ∙ z))) (λ z. p .nothing z ∙ sym (q .nothing λ y. z (e ∙ y))),
     )
 
 pub hear-only : (S : Sizes) (o k j w : ℕ) (old : List ℕ) (n n′ b b′ : ℕ) (s t : List ℕ)
@@ -120,5 +120,5 @@ hear-only S o k j w old n n′ b b′ s t p q =
       p .no-bad ∙ sym (q .no-bad),
       alike s t n
           (λ z. word-one S o k j w old s t (p .granted z) (q .granted (sym e ∙ z)))
-          (λ z. p .refused z ∙ sym (q .refused λ y. z (e ∙ y))),
+          (λ z. p .nothing z ∙ sym (q .nothing λ y. z (e ∙ y))),
     )

@@ -31,7 +31,7 @@ pub record FreshCall (S : Sizes) (cells : List ℕ) (o : ℕ) (old : List ℕ) (
   pub order : freshChecks S cells o old give refusal
   pub names-bad : NamesBad S cells refusal bad
   pub granted : refusal ≡ 0 → FreshPromise (mapOf S cells) o new
-  pub refused : refusal ≢ 0 → new ≡ old
+  pub nothing : refusal ≢ 0 → new ≡ old
 
 -- is the state s sound
 abbrev pub soundChecks : Sizes → ℕ → List ℕ → List Check
@@ -46,7 +46,7 @@ pub record OutstandingCall (S : Sizes) (o : ℕ) (s : List ℕ) (refusal bad n :
   pub order : soundChecks S o s give refusal
   pub no-bad : bad ≡ 0
   pub granted : refusal ≡ 0 → n ≡ outstanding S s
-  pub refused : refusal ≢ 0 → n ≡ 0
+  pub nothing : refusal ≢ 0 → n ≡ 0
 
 -- "Hearing a word adds its marks to the one heard byte and then sets that node's own byte by the rule. No other byte changes."
 pub record WordHeard (S : Sizes) (o k j w : ℕ) (old new : List ℕ) : Type 0 where
@@ -74,4 +74,4 @@ pub record HearCall (S : Sizes) (o k j w : ℕ) (old : List ℕ) (refusal bad : 
   pub order : hearChecks S o k j w old give refusal
   pub no-bad : bad ≡ 0
   pub granted : refusal ≡ 0 → WordHeard S o k j w old new
-  pub refused : refusal ≢ 0 → new ≡ old
+  pub nothing : refusal ≢ 0 → new ≡ old
