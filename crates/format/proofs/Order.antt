@@ -1,6 +1,6 @@
 -- The checks of reading and of writing decide their answers in the order of the promise, and name the first bad cell. Assumes nothing.
-use mathlib.Core.Path.{_≡_, refl}
-use mathlib.Core.Logic.{_↔_, _≢_, inl, inr}
+use mathlib.Core.Path.{_≡_}
+use mathlib.Core.Logic.{_↔_, inl, inr}
 use mathlib.Core.Bool.{Bool, _&&_}
 use mathlib.Core.List.{List, [], _∷_, _++_}
 use Prim.Native.Nat.{ℕ, _≤_}
@@ -9,16 +9,15 @@ use lib.Dec.{eqb, leb}
 use lib.ListN.{length}
 use Rattle.mesh.specs.Tools.{between}
 use Rattle.mesh.specs.Mesh.{inRange, InRange, nodes}
-use Rattle.mesh.specs.Answers.{refusalNo, refusalBad, answerNo, answerBad, _andThen_, unless, checkSizes, checkCells, checkMap, checkRoom}
+use Rattle.mesh.specs.Answers.{answerNo, answerBad, _andThen_, unless, checkSizes, checkCells, checkMap, checkRoom}
 use Rattle.mesh.specs.Order.{Check, _else_, AllPass, NoneBad, mapChecks, NamesBad}
 use Rattle.mesh.specs.declared.Sizes.{Sizes}
-use Rattle.mesh.specs.declared.Refusal.{Refusal}
 use Rattle.mesh.specs.declared.Refusal.the-variants.{BadSizes, NoRoom, BadFile}
 use Rattle.mesh.specs.declared.Answer.{Answer}
 use Rattle.mesh.specs.declared.Answer.the-variants.{Done}
 use Rattle.mesh.proofs.Tests.{T-and, T-eq, T-le, T-all}
 use Rattle.mesh.proofs.Order.{_decide_, all-pass, decides-two, decides-then, decides-by, sizes-decided, room-decided, cells-decided, map-decided}
-use Rattle.mesh.proofs.Order.{bad-then, bad-unless, bad-cells, bad-map}
+use Rattle.mesh.proofs.Order.{bad-then, bad-unless, bad-after, bad-cells, bad-map}
 use Rattle.format.specs.Format.{trailerLength, fileLimit, distance, trailerAt, hasMark, sizesIn, distanceIn, cellsIn}
 use Rattle.format.specs.Entry.{checkFrame, checkTrailer, readCheck, writeCheck}
 use Rattle.format.specs.Promise.{Framed, Reaches, readChecks, writeChecks}
@@ -86,11 +85,6 @@ module _ (file : List ℕ) where
   pub read-passes : (room : ℕ) → (readCheck file room ≡ Done) ↔ AllPass (readChecks file room)
   read-passes room = all-pass (readChecks file room) (readCheck file room) (read-decided room)
 
-  -- none of the checks before the cells names one
-  no-cell : (t : Bool) (r : Refusal) → refusalNo r ≢ 4 → refusalBad r ≡ 0
-      → NamesBad S (cellsIn file) (answerNo (unless t r)) (answerBad (unless t r))
-  no-cell = bad-unless S (cellsIn file)
-
   pub read-bad : (room : ℕ) → NamesBad S (cellsIn file) (answerNo (readCheck file room)) (answerBad (readCheck file room))
   unfolding readCheck checkTrailer checkFrame
   read-bad room =
@@ -100,15 +94,10 @@ module _ (file : List ℕ) where
       let sized = frame andThen checkSizes S in
       let reached = sized andThen unless reaches BadFile in
       bad-then S cells (reached andThen checkRoom (nodes S) room) (checkCells S cells)
-      (bad-then S cells reached (checkRoom (nodes S) room)
-      (bad-then S cells sized (unless reaches BadFile)
-      (bad-then S cells frame (checkSizes S)
-      (bad-then S cells first (unless marked BadFile)
-      (no-cell long BadFile (λ z. omega arith) refl)
-      (no-cell marked BadFile (λ z. omega arith) refl))
-      (no-cell (inRange S) BadSizes (λ z. omega arith) refl))
-      (no-cell reaches BadFile (λ z. omega arith) refl))
-      (no-cell (leb (nodes S) room) NoRoom (λ z. omega arith) refl))
+      (bad-after S cells reached (leb (nodes S) room) NoRoom (λ z. omega arith)
+      (bad-after S cells sized reaches BadFile (λ z. omega arith)
+      (bad-after S cells frame (inRange S) BadSizes (λ z. omega arith)
+      (bad-after S cells first marked BadFile (λ z. omega arith) (bad-unless S cells long BadFile (λ z. omega arith))))))
       (bad-cells S cells)
 
 -- ---- writing
@@ -126,5 +115,4 @@ module _ (S : Sizes) (cells : List ℕ) (room : ℕ) where
   pub write-bad : NamesBad S cells (answerNo (writeCheck S cells room)) (answerBad (writeCheck S cells room))
   unfolding writeCheck
   write-bad =
-      bad-then S cells (checkMap S cells) (checkRoom (distance S) room) (bad-map S cells)
-      (bad-unless S cells (leb (distance S) room) NoRoom (λ z. omega arith) refl)
+      bad-after S cells (checkMap S cells) (leb (distance S) room) NoRoom (λ z. omega arith) (bad-map S cells)

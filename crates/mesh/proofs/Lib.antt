@@ -11,3 +11,4 @@ pub mod Granted
 pub mod Order
 pub mod Promise
 pub mod Impostors
+pub mod Samples

@@ -151,6 +151,20 @@ orientation-decided o = decides-by (leb o 7) BadNumber (T-le o 7)
 pub room-decided : (need room : ℕ) → (need ≤ room) else 3 ∷ [] decide checkRoom need room
 room-decided need room = decides-by (leb need room) NoRoom (T-le need room)
 
+-- no refusal but 4 names a cell
+pub no-cell : (r : Refusal) → refusalNo r ≢ 4 → refusalBad r ≡ 0
+no-cell BadSizes n = refl
+no-cell BadLength n = refl
+no-cell NoRoom n = refl
+no-cell (BadCell k) n = absurd (n refl)
+no-cell BadNumber n = refl
+no-cell Unsound n = refl
+no-cell NoPair n = refl
+no-cell NotHeld n = refl
+no-cell FaultyEnd n = refl
+no-cell NoPath n = refl
+no-cell BadFile n = refl
+
 -- the cells, and the first bad one
 fails-false : (t : Bool) → T (not t) ↔ (t ≡ false)
 fails-false true = (λ h. absurd h, λ e. subst T e tt)
@@ -198,9 +212,17 @@ module _ (S : Sizes) (cells : List ℕ) where
   bad-then Done b h k = k
   bad-then (Refused r) b h k = h
 
-  pub bad-unless : (t : Bool) (r : Refusal) → refusalNo r ≢ 4 → refusalBad r ≡ 0 → NamesBad S cells (answerNo (unless t r)) (answerBad (unless t r))
-  bad-unless true r n e = (λ z. absurd (omega arith), λ _. refl)
-  bad-unless false r n e = (λ z. absurd (n z), λ _. e)
+  pub bad-unless : (t : Bool) (r : Refusal) → refusalNo r ≢ 4 → NamesBad S cells (answerNo (unless t r)) (answerBad (unless t r))
+  bad-unless true r n = (λ z. absurd (omega arith), λ _. refl)
+  bad-unless false r n = (λ z. absurd (n z), λ _. no-cell r n)
+
+  -- a test of another number names none
+  pub bad-after : (a : Answer) (t : Bool) (r : Refusal) → refusalNo r ≢ 4 → NamesBad S cells (answerNo a) (answerBad a)
+      → NamesBad S cells (answerNo (a andThen unless t r)) (answerBad (a andThen unless t r))
+  bad-after a t r n h = bad-then a (unless t r) h (bad-unless t r n)
+
+  pub bad-sizes : NamesBad S cells (answerNo (checkSizes S)) (answerBad (checkSizes S))
+  bad-sizes = bad-unless (inRange S) BadSizes (λ z. omega arith)
 
   pub bad-cells : NamesBad S cells (answerNo (checkCells S cells)) (answerBad (checkCells S cells))
   bad-cells = go (ltb first (length cells)) refl
@@ -214,9 +236,7 @@ module _ (S : Sizes) (cells : List ℕ) where
   unfolding checkMap
   bad-map =
       let same = eqb (length cells) (nodes S) in
-      bad-then (checkSizes S andThen unless same BadLength) (checkCells S cells)
-      (bad-then (checkSizes S) (unless same BadLength) (bad-unless (inRange S) BadSizes (λ z. omega arith) refl) (bad-unless same BadLength (λ z. omega arith) refl))
-      bad-cells
+      bad-then (checkSizes S andThen unless same BadLength) (checkCells S cells) (bad-after (checkSizes S) same BadLength (λ z. omega arith) bad-sizes) bad-cells
 
   -- there is one first bad cell, so there is one that an answer names
   first-one : (j k : ℕ) → FirstBad S cells j → FirstBad S cells k → j ≡ k

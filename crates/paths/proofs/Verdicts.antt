@@ -1,23 +1,20 @@
 -- What the checks of a route decide, in the promise's words: a list of checks decides each call's answer; all of them pass exactly if the question
 -- is in order, both ends work and, for a route, a path joins them; and the answer names the bad cell of the map. Assumes nothing.
-use mathlib.Core.Path.{_≡_, refl}
-use mathlib.Core.Logic.{_↔_, _≢_}
-use mathlib.Core.Bool.{Bool}
+use mathlib.Core.Logic.{_↔_}
 use mathlib.Core.List.{List, [], _∷_, _++_}
 use Prim.Native.Nat.{ℕ, _+_, _<_, _≤_}
 use native.Mathlib.Omega.{arith}
 use lib.Dec.{leb, ltb}
 use Rattle.mesh.specs.Mesh.{nodes, placeOf}
 use Rattle.mesh.specs.Cells.{Map, mapOf, cellAt, mayEnd}
-use Rattle.mesh.specs.Answers.{refusalNo, refusalBad, answerNo, answerBad, _andThen_, unless, checkMap, checkNode, checkRoom}
+use Rattle.mesh.specs.Answers.{answerNo, answerBad, _andThen_, checkMap, checkNode, checkRoom}
 use Rattle.mesh.specs.Order.{Check, _else_, AllPass, mapChecks, NamesBad}
 use Rattle.mesh.proofs.Tests.{T-lt}
 use Rattle.mesh.proofs.Numbers.{place-in}
 use Rattle.mesh.proofs.Order.{decides-after, decides-both, last-passes}
-use Rattle.mesh.proofs.Order.{_decide_, decides-then, decides-by, room-decided, map-decided, bad-then, bad-unless, bad-map}
+use Rattle.mesh.proofs.Order.{_decide_, decides-then, decides-by, room-decided, map-decided, bad-after, bad-map}
 use Rattle.mesh.specs.declared.Sizes.{Sizes}
 use Rattle.mesh.specs.declared.Place.{Place}
-use Rattle.mesh.specs.declared.Refusal.{Refusal}
 use Rattle.mesh.specs.declared.Refusal.the-variants.{NoRoom, BadNumber, FaultyEnd, NoPath}
 use Rattle.mesh.specs.declared.Answer.{Answer}
 use Rattle.paths.specs.Differences.{hops}
@@ -99,29 +96,25 @@ module _ (S : Sizes) (cells : List ℕ) (s e : ℕ) where
   abbrev Names : Answer → Type 0
   Names a = NamesBad S cells (answerNo a) (answerBad a)
 
-  -- a test of another number names none
-  names-after : (a : Answer) (t : Bool) (r : Refusal) → refusalNo r ≢ 4 → refusalBad r ≡ 0 → Names a → Names (a andThen unless t r)
-  names-after a t r n z h = bad-then S cells a (unless t r) h (bad-unless S cells t r n z)
-
   ends-names : Names (checkEnds S cells s e)
   unfolding checkEnds
   ends-names =
       let a = checkMap S cells andThen checkNode S s in
       let b = a andThen checkNode S e in
       let c = b andThen checkEnd m from in
-      names-after c (mayEnd (cellAt m to)) FaultyEnd (λ z. omega arith) refl
-      (names-after b (mayEnd (cellAt m from)) FaultyEnd (λ z. omega arith) refl
-      (names-after a (ltb e (nodes S)) BadNumber (λ z. omega arith) refl
-      (names-after (checkMap S cells) (ltb s (nodes S)) BadNumber (λ z. omega arith) refl (bad-map S cells))))
+      bad-after S cells c (mayEnd (cellAt m to)) FaultyEnd (λ z. omega arith)
+      (bad-after S cells b (mayEnd (cellAt m from)) FaultyEnd (λ z. omega arith)
+      (bad-after S cells a (ltb e (nodes S)) BadNumber (λ z. omega arith)
+      (bad-after S cells (checkMap S cells) (ltb s (nodes S)) BadNumber (λ z. omega arith) (bad-map S cells))))
 
   pub verdict-names : Names (verdictCheck S cells s e)
   unfolding verdictCheck
-  verdict-names = names-after (checkEnds S cells s e) (leads m to from to) NoPath (λ z. omega arith) refl ends-names
+  verdict-names = bad-after S cells (checkEnds S cells s e) (leads m to from to) NoPath (λ z. omega arith) ends-names
 
   pub route-names : (room : ℕ) → Names (routeCheck S cells s e room)
   unfolding routeCheck
-  route-names room = names-after (verdictCheck S cells s e) (leb (routeLength S s e) room) NoRoom (λ z. omega arith) refl verdict-names
+  route-names room = bad-after S cells (verdictCheck S cells s e) (leb (routeLength S s e) room) NoRoom (λ z. omega arith) verdict-names
 
   pub reached-names : (room : ℕ) → Names (reachedCheck S cells s e room)
   unfolding reachedCheck
-  reached-names room = names-after (checkEnds S cells s e) (leb (nodes S) room) NoRoom (λ z. omega arith) refl ends-names
+  reached-names room = bad-after S cells (checkEnds S cells s e) (leb (nodes S) room) NoRoom (λ z. omega arith) ends-names

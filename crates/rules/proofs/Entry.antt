@@ -1,5 +1,5 @@
 -- The call for the marks: which refusal stands, what a grant tells, and what is to be written. Assumes nothing.
-use mathlib.Core.Path.{_≡_, refl, _∙_}
+use mathlib.Core.Path.{_≡_, _∙_}
 use mathlib.Core.Bool.{true, false}
 use mathlib.Core.List.{List, [], _∷_, _++_}
 use Prim.Native.Nat.{ℕ, _≤_}
@@ -16,7 +16,7 @@ use Rattle.mesh.specs.declared.Refusal.{Refusal}
 use Rattle.mesh.specs.declared.Refusal.the-variants.{BadNumber, NoRoom}
 use Rattle.mesh.specs.declared.Answer.the-variants.{Done, Refused}
 use Rattle.mesh.proofs.Answers.{split, Checked, map-granted, orientation-granted, room-granted}
-use Rattle.mesh.proofs.Order.{_decide_, decides-then, map-decided, orientation-decided, room-decided, bad-then, bad-unless, bad-map}
+use Rattle.mesh.proofs.Order.{_decide_, decides-then, map-decided, orientation-decided, room-decided, bad-after, bad-map}
 use Rattle.mesh.proofs.Fill.{front-kept, front-size}
 use Rattle.mesh.proofs.Numbers.{number-lt}
 use Rattle.rules.specs.Marks.{markAt, marksOf}
@@ -64,9 +64,8 @@ module _ (S : Sizes) (cells : List ℕ) (o room : ℕ) where
   pub marks-bad : NamesBad S cells (answerNo (marksAnswer S cells o room)) (answerBad (marksAnswer S cells o room))
   unfolding marksAnswer
   marks-bad =
-      bad-then S cells (checkMap S cells andThen checkOrientation o) (checkRoom (nodes S) room)
-      (bad-then S cells (checkMap S cells) (checkOrientation o) (bad-map S cells) (bad-unless S cells (leb o 7) BadNumber (λ z. omega arith) refl))
-      (bad-unless S cells (leb (nodes S) room) NoRoom (λ z. omega arith) refl)
+      bad-after S cells (checkMap S cells andThen checkOrientation o) (leb (nodes S) room) NoRoom (λ z. omega arith)
+      (bad-after S cells (checkMap S cells) (leb o 7) BadNumber (λ z. omega arith) (bad-map S cells))
 
 -- ---- what is to be written
 

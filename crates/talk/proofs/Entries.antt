@@ -7,20 +7,20 @@ use Prim.Native.Nat.{ℕ, _<_, _≤_}
 use native.Mathlib.Omega.{arith}
 use lib.Dec.{T, eqb, leb, ltb}
 use lib.ListN.{length}
-use Rattle.mesh.specs.Mesh.{InRange, inRange, nodes}
+use Rattle.mesh.specs.Mesh.{InRange, nodes}
 use Rattle.mesh.specs.Cells.{mapOf, stateLength}
-use Rattle.mesh.specs.Answers.{refusalNo, refusalBad, answerNo, answerBad, numbered, numberedNo, numberedBad, numberedValue}
+use Rattle.mesh.specs.Answers.{refusalNo, answerNo, answerBad, numbered, numberedNo, numberedBad, numberedValue}
 use Rattle.mesh.specs.Answers.{_andThen_, unless, checkSizes, checkMap, checkOrientation}
 use Rattle.mesh.specs.Order.{Check, _else_, _give_, NoneBad, NamesBad, mapChecks}
 use Rattle.rules.specs.Marks.{isWord}
 use Rattle.mesh.specs.declared.Sizes.{Sizes}
 use Rattle.mesh.specs.declared.Refusal.{Refusal}
-use Rattle.mesh.specs.declared.Refusal.the-variants.{BadSizes, BadLength, NoRoom, BadCell, BadNumber, Unsound, NoPair, NotHeld, FaultyEnd, NoPath, BadFile}
+use Rattle.mesh.specs.declared.Refusal.the-variants.{BadLength, BadNumber, Unsound, NoPair, NotHeld}
 use Rattle.mesh.specs.declared.Answer.{Answer}
 use Rattle.mesh.specs.declared.Answer.the-variants.{Done, Refused}
 use Rattle.mesh.proofs.Tests.{T-eq, T-le, T-lt}
 use Rattle.mesh.proofs.Order.{not-given, _decide_, gives, decides-then, decides-by, sizes-decided, orientation-decided, map-decided}
-use Rattle.mesh.proofs.Order.{bad-then, bad-unless, bad-map, not-zero, done-of}
+use Rattle.mesh.proofs.Order.{no-cell, bad-then, bad-after, bad-sizes, bad-map, not-zero, done-of}
 use Rattle.talk.specs.State.{heard, mapIn, pair, says}
 use Rattle.talk.specs.Sound.{within, sound, fresh}
 use Rattle.talk.specs.Hear.{changed, outstanding}
@@ -90,35 +90,18 @@ hear-decided S o k j w s =
 
 -- ---- the bad cell
 
--- the refusal 4 alone names one
-named : (r : Refusal) → refusalNo r ≢ 4 → refusalBad r ≡ 0
-named BadSizes n = refl
-named BadLength n = refl
-named NoRoom n = refl
-named (BadCell k) n = absurd (n refl)
-named BadNumber n = refl
-named Unsound n = refl
-named NoPair n = refl
-named NotHeld n = refl
-named FaultyEnd n = refl
-named NoPath n = refl
-named BadFile n = refl
-
 none-named : (a : Answer) → answerNo a ≢ 4 → answerBad a ≡ 0
 none-named Done n = refl
-none-named (Refused r) n = named r n
+none-named (Refused r) n = no-cell r n
 
 fresh-bad : (S : Sizes) (cells : List ℕ) (o n : ℕ) → NamesBad S cells (answerNo (freshAnswer S cells o n)) (answerBad (freshAnswer S cells o n))
 unfolding freshAnswer checkState
 fresh-bad S cells o n =
     let long = unless (eqb n (stateLength S)) BadLength in
-    bad-then S cells (checkSizes S andThen long andThen checkMap S cells) (checkOrientation o)
+    bad-after S cells (checkSizes S andThen long andThen checkMap S cells) (leb o 7) BadNumber (λ e. omega arith)
     (bad-then S cells (checkSizes S andThen long) (checkMap S cells)
-    (bad-then S cells (checkSizes S) long
-    (bad-unless S cells (inRange S) BadSizes (λ e. omega arith) refl)
-    (bad-unless S cells (eqb n (stateLength S)) BadLength (λ e. omega arith) refl))
+    (bad-after S cells (checkSizes S) (eqb n (stateLength S)) BadLength (λ e. omega arith) (bad-sizes S cells))
     (bad-map S cells))
-    (bad-unless S cells (leb o 7) BadNumber (λ e. omega arith) refl)
 
 -- ---- the four calls
 

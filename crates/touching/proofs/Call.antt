@@ -1,6 +1,6 @@
 -- Demand 2 for the components: what the call answers and writes, as defined, keeps the promise, and nothing else does. Assumes nothing.
 use mathlib.Core.List.{List, [], _∷_, _++_}
-use mathlib.Core.Path.{_≡_, refl, sym, ap, _∙_}
+use mathlib.Core.Path.{_≡_, sym, ap, _∙_}
 use Prim.Native.Nat.{ℕ, _≤_}
 use native.Mathlib.Decide.{ℕ-discrete}
 use native.Mathlib.Omega.{arith}
@@ -16,7 +16,7 @@ use Rattle.mesh.specs.declared.Refusal.the-variants.{BadNumber, NoRoom}
 use Rattle.mesh.specs.declared.Answer.{Answer}
 use Rattle.mesh.proofs.Answers.{kept}
 use Rattle.mesh.proofs.Order.{one-number, _decide_, gives, decides-then, map-decided, orientation-decided, room-decided}
-use Rattle.mesh.proofs.Order.{bad-then, bad-unless, bad-map, bad-one, done-of, refused-of, numbered-as}
+use Rattle.mesh.proofs.Order.{bad-after, bad-map, bad-one, done-of, refused-of, numbered-as}
 use Rattle.rules.specs.Marks.{marksOf}
 use Rattle.rules.proofs.Marks.{marks-length}
 use Rattle.touching.specs.Components.{tableOf, recordsOf, howMany}
@@ -53,13 +53,10 @@ module _ (S : Sizes) (cells : List ℕ) (o : ℕ) where
     components-bad : NamesBad S cells (answerNo check) (answerBad check)
     unfolding componentsCheck
     components-bad =
-        let need = howMany S marks in
         let c1 = checkMap S cells andThen checkOrientation o in
-        bad-then S cells (c1 andThen checkRoom (nodes S) tableRoom) (checkRoom need rowRoom)
-        (bad-then S cells c1 (checkRoom (nodes S) tableRoom)
-        (bad-then S cells (checkMap S cells) (checkOrientation o) (bad-map S cells) (bad-unless S cells (leb o 7) BadNumber (λ z. omega arith) refl))
-        (bad-unless S cells (leb (nodes S) tableRoom) NoRoom (λ z. omega arith) refl))
-        (bad-unless S cells (leb need rowRoom) NoRoom (λ z. omega arith) refl)
+        bad-after S cells (c1 andThen checkRoom (nodes S) tableRoom) (leb (howMany S marks) rowRoom) NoRoom (λ z. omega arith)
+        (bad-after S cells c1 (leb (nodes S) tableRoom) NoRoom (λ z. omega arith)
+        (bad-after S cells (checkMap S cells) (leb o 7) BadNumber (λ z. omega arith) (bad-map S cells)))
 
   -- ---- what is written
 
