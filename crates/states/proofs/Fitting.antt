@@ -12,11 +12,6 @@ use Rattle.rules.proofs.Bytes.{word-cases}
 use Rattle.talk.specs.Sound.{within}
 use Rattle.states.specs.Six.{fits}
 
--- where 8 or 1 is shown, that byte alone is right
-pub fits-bare : (n b : ℕ) → bitAnd n 6 ≡ 0 → fits n b ≡ eqb b n
-unfolding fits
-fits-bare n b e = rw (e, or-zero-r b)
-
 -- where a word is shown, a word within it: a byte that fits is no greater, and the rest is computed
 fits-low : (n b : ℕ) → T (isWord n) → T (fits n b) → b < 7
 unfolding fits
@@ -44,3 +39,8 @@ fits-word n b w = bool-ext (fits n b) (isWord b && within b n)
 
     word-low : T (isWord b) → b < 7
     word-low = word-cases (λ b. b < 7) (omega arith) (omega arith) (omega arith) (omega arith) b
+
+-- where 8 or 1 is shown, that byte alone is right
+pub fits-bare : (n b : ℕ) → bitAnd n 6 ≡ 0 → fits n b ≡ eqb b n
+unfolding fits
+fits-bare n b e = rw (e, or-zero-r b)
