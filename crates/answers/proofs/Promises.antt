@@ -15,6 +15,7 @@ use Rattle.paths.specs.Entries.{verdictAnswer, routeAnswer, routeOut, reachedAn
 use Rattle.paths.proofs.Promise.{promise}
 use Rattle.talk.specs.Entries.{freshAnswer, freshOut, soundAnswer, outstandingAnswer, hearAnswer, hearOut}
 use Rattle.talk.proofs.Entries.{fresh-call, sound-call, outstanding-call, hear-call}
+use Rattle.format.specs.Promise.{Bytes}
 use Rattle.format.specs.Entry.{readAnswer, readOut, writeAnswer, writeOut}
 use Rattle.format.proofs.Promise.{reads, writes}
 use Rattle.answers.specs.Fields.{nodeFields, placeFields, stepFields, doneFields, countedFields, verdictFields, mapFields}
@@ -69,5 +70,5 @@ module _ (w h d : ℕ) where
       → dk-write-map w h d cells out (countedFields (writeAnswer (sizes w h d) cells (length out))) (writeOut (sizes w h d) cells out)
   write-map-fields cells out = writes (sizes w h d) cells out
 
-pub read-map-fields : (file cells : List ℕ) → dk-read-map file cells (mapFields (readAnswer file (length cells))) (readOut file cells)
-read-map-fields file cells = reads file cells
+pub read-map-fields : (file cells : List ℕ) → Bytes file → dk-read-map file cells (mapFields (readAnswer file (length cells))) (readOut file cells)
+read-map-fields file cells bytes = reads file cells bytes

@@ -102,8 +102,8 @@ hear-kept κs (w, (h, (d, (orientation, (listener, (direction, (word, (state, _)
 
 pub read-map-kept : Promised 2 read-map-kinds.ps read-map-kinds.r read-map-reads.Learnt
     (λ κs (file, (cells, _)) answer (_, (cells′, _)). dk-read-map (now file) (now cells) answer (now cells′))
-read-map-kept κs (file, (cells, _)) answer (_, (cells′, _)) (e, f) =
-    as-left (dk-read-map (now file) (now cells)) answer _ (now cells′) _ e f (read-map-fields (now file) (now cells))
+read-map-kept κs (file, (cells, _)) answer (_, (cells′, _)) (e, (f, bytes)) =
+    as-left (dk-read-map (now file) (now cells)) answer _ (now cells′) _ e f (read-map-fields (now file) (now cells) bytes)
 
 pub write-map-kept : Promised 2 write-map-kinds.ps write-map-kinds.r write-map-reads.Learnt
     (λ κs (w, (h, (d, (cells, (out, _))))) answer (_, (_, (_, (_, (out′, _))))). dk-write-map w h d (now cells) (now out) answer (now out′))

@@ -131,7 +131,7 @@ hear-tight = record {
 pub read-map-tight : Tight 2 read-map-kinds.ps read-map-kinds.r read-map-reads.Asked read-map-reads.Learnt (λ κs x. x .refusal)
 read-map-tight = record {
   every = λ κs a. tt;
-  one = λ κs a x y ws vs h k. (h .0 ∙ sym (k .0), λ i. (tt, ((h .1 ∙ sym (k .1)) i, tt)));
+  one = λ κs a x y ws vs h k. (h .0 ∙ sym (k .0), λ i. (tt, ((h .1 .0 ∙ sym (k .1 .0)) i, tt)));
   lending = λ κs. (read-only, (lent, tt));
   kept = λ κs a x ws h n. (tt, (read-map-kept κs a x (atExit (endedOf 2 read-map-kinds.ps read-map-kinds.r) κs a ws) h .nothing n .3, tt));
 }

@@ -7,14 +7,16 @@ use answers::sizes_of;
 ghost use mathlib.Core.Path.{_≡_};
 ghost use lib.ListN.{length};
 ghost use Rattle.mesh.specs.Mesh.{sizes};
+ghost use Rattle.format.specs.Promise.{Bytes};
 ghost use Rattle.format.specs.Entry.{readAnswer, readOut, writeAnswer, writeOut};
 ghost use Rattle.answers.specs.Fields.{countedFields, mapFields};
 
-// Reads a map file. Refusals: 11, 1, 11, 3, 4.
+// Reads a map file. Refusals: 11, 1, 11, 3, 4. Its contract also passes on what the type says: a file has bytes.
 #[no_mangle]
 pub extern "C" fn dk_read_map(file: &[u8], cells: &mut [u8]) -> MapAnswer
     ensures { λ r. ⌜ r ≡ mapFields (readAnswer (now (file .entry)) (length (now (cells .entry)))) ⌝ }
     ensures { λ _. ⌜ now (cells .exit) ≡ readOut (now (file .entry)) (now (cells .entry)) ⌝ }
+    ensures { λ _. ⌜ Bytes (now (file .entry)) ⌝ }
 {
     let a = mapfile::reader::read_map(file, cells);
     map_fields(a)

@@ -74,13 +74,14 @@ module _ (file old : List ℕ) where
       let q = each (ap mapReadSizes (not-read file (length old) r e)) in
       (q .0, q .1, q .2, kept reading r (readWritten file old) old e)
 
-  pub reads : Reads file old (mapReadNo answer) (mapReadBad answer) (mapReadSizes answer .w) (mapReadSizes answer .h) (mapReadSizes answer .d) (readOut file old)
-  reads =
+  -- A file has bytes: that one which is read is the file of a map needs this, and nothing else does.
+  pub reads : Bytes file → Reads file old (mapReadNo answer) (mapReadBad answer) (mapReadSizes answer .w) (mapReadSizes answer .h) (mapReadSizes answer .d) (readOut file old)
+  reads bytes =
       record {
         order = read-order file (length old);
         names-bad = read-names-bad file (length old);
         read = read-file file (length old);
-        of-a-map = λ bytes e.
+        of-a-map = λ e.
             let (cells, f, h) = read-exactly file bytes (length old) (mapReadSizes answer) .0 (e, refl) in
             (mapReadSizes answer, cells, f, h);
         given = read-given;
@@ -93,13 +94,13 @@ alike a b = (a .0 ∙ sym (b .0), a .1 ∙ sym (b .1), a .2 ∙ sym (b .2), a .3
 
 -- "Any two outcomes it allows are proved equal."
 pub one-reading : {file old : List ℕ} {r b w h d r′ b′ w′ h′ d′ : ℕ} {new new′ : List ℕ}
-    → Bytes file → Reads file old r b w h d new → Reads file old r′ b′ w′ h′ d′ new′
+    → Reads file old r b w h d new → Reads file old r′ b′ w′ h′ d′ new′
     → (r ≡ r′) × (b ≡ b′) × (w ≡ w′) × (h ≡ h′) × (d ≡ d′) × (new ≡ new′)
-one-reading {file} {old} {r} {b} {w} {h} {d} {r′} {b′} {w′} {h′} {d′} {new} {new′} bytes p q =
+one-reading {file} {old} {r} {b} {w} {h} {d} {r′} {b′} {w′} {h′} {d′} {new} {new′} p q =
     let same = one-number (readChecks file (length old)) r r′ (p .order) (q .order) in
     let cell = bad-one (sizesIn file) (cellsIn file) r b b′ (p .names-bad) (rw same (q .names-bad)) in
     let rest : (w ≡ w′) × (h ≡ h′) × (d ≡ d′) × (new ≡ new′) = elim (ℕ-discrete r 0) [
-      | yes e ↦ let (S, cells, f, _) = p .of-a-map bytes e in alike (p .given e f) (q .given (sym same ∙ e) f)
+      | yes e ↦ let (S, cells, f, _) = p .of-a-map e in alike (p .given e f) (q .given (sym same ∙ e) f)
       | no n ↦ alike (p .nothing n) (q .nothing (λ e. n (same ∙ e)))
     ] in
     (same, cell, rest .0, rest .1, rest .2, rest .3)

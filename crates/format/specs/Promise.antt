@@ -37,7 +37,7 @@ readChecks file room =
 abbrev pub writeChecks : Sizes → List ℕ → ℕ → List Check
 writeChecks S cells room = mapChecks S cells ++ (distance S ≤ room) else 3 ∷ []
 
--- Each of the list is below 256, as bytes are. (The lists of the contracts are of any numbers; at the boundary they are of bytes.)
+-- each of the list is below 256, as bytes are
 abbrev pub Bytes : List ℕ → Type 0
 Bytes l = (i : ℕ) → getD l i 0 < 256
 
@@ -46,9 +46,9 @@ pub record Reads (file old : List ℕ) (refusal bad w h d : ℕ) (new : List ℕ
   -- every refusal is given in its order and not otherwise, and 4 names the first bad cell;
   pub order : readChecks file (length old) give refusal
   pub names-bad : NamesBad (sizesIn file) (cellsIn file) refusal bad
-  -- the file of a map, notes and cells and trailer, is read where there is room; and a row of bytes that is read is the file of a map;
+  -- the file of a map, notes and cells and trailer, is read where there is room; and what is read is the file of a map;
   pub read : {S : Sizes} {cells : List ℕ} → MapFile S cells file → nodes S ≤ length old → refusal ≡ 0
-  pub of-a-map : Bytes file → refusal ≡ 0 → (S : Sizes) × (cells : List ℕ) × MapFile S cells file × (nodes S ≤ length old)
+  pub of-a-map : refusal ≡ 0 → (S : Sizes) × (cells : List ℕ) × MapFile S cells file × (nodes S ≤ length old)
   -- then the sizes are that map's, its cells stand in front, and "longer outputs keep their remaining places";
   pub given : refusal ≡ 0 → {S : Sizes} {cells : List ℕ} → MapFile S cells file
       → (w ≡ S .w) × (h ≡ S .h) × (d ≡ S .d) × (new ≡ cells ++ drop (nodes S) old)

@@ -1,12 +1,12 @@
 -- Laws of answers: the first refusal stands and keeps what is lent, a check that is granted says what it tested, and the first bad cell
 -- is the first. Assumes nothing.
-use mathlib.Core.Path.{_≡_, refl, sym, ap}
+use mathlib.Core.Path.{_≡_, refl, ap}
 use mathlib.Core.Bool.{Bool, true, false, cond}
 use mathlib.Core.List.{List, [], _∷_}
 use Prim.Native.Nat.{ℕ, zero, suc, _<_, _≤_}
 use native.Mathlib.Nat.{le-of-suc-le-suc}
 use native.Mathlib.Omega.{arith}
-use borrow.Author.Tests.{ltb-true, ltb-false, le-ltb, leb-true, eqb-true, eq-eqb}
+use borrow.Author.Tests.{ltb-true, ltb-false, leb-true, eqb-true}
 use lib.ListN.{length, getD}
 use lib.Dec.{T, ltb, leb, eqb}
 use Rattle.mesh.specs.Tools.{any}
@@ -172,12 +172,7 @@ module _ (S : Sizes) (cells : List ℕ) where
   unfolding checkMap
   map-0 e e2 e4 = rw (e, e2, e4)
 
-  -- granted exactly if the map is in order
-  pub map-in-order : Checked S cells → checkMap S cells ≡ Done
-  map-in-order c =
-      let e = first-is (badCell S) cells (length cells) (omega arith) (c .good) (λ h. absurd (omega arith)) in
-      sym (map-0 (sizes-is S (c .sized)) (eq-eqb _ _ (c .whole)) (le-ltb (firstBad (badCell S) cells) (length cells) (omega arith)))
-
+  -- granted only if the map is in order
   pub map-granted : checkMap S cells ≡ Done → Checked S cells
   unfolding checkMap
   map-granted e =

@@ -1,11 +1,10 @@
 -- What a granted answer shows of its value: a place is in the mesh. Assumes nothing.
-use mathlib.Core.Path.{_≡_, refl, ap, subst}
-use mathlib.Core.Logic.{_↔_}
+use mathlib.Core.Path.{_≡_, refl, subst}
 use Prim.Native.Nat.{ℕ}
 use native.Mathlib.Omega.{arith}
 use Rattle.mesh.specs.Mesh.{InRange, Inside, placeOf}
 use Rattle.mesh.specs.Steps.{next}
-use Rattle.mesh.specs.Answers.{numbered, placed, stepped, _andThen_, checkSizes, checkNode, checkPlace, checkDirection, placeAnswer, stepAnswer}
+use Rattle.mesh.specs.Answers.{placed, stepped, _andThen_, checkSizes, checkNode, checkPlace, checkDirection, placeAnswer, stepAnswer}
 use Rattle.mesh.proofs.Answers.{split, sizes-granted, place-granted, node-granted}
 use Rattle.mesh.proofs.Numbers.{place-in}
 use Rattle.mesh.proofs.Steps.{next-in}
@@ -13,22 +12,12 @@ use Rattle.mesh.specs.declared.Sizes.{Sizes}
 use Rattle.mesh.specs.declared.Place.{Place}
 use Rattle.mesh.specs.declared.Next.{Next}
 use Rattle.mesh.specs.declared.Next.the-variants.{At}
-use Rattle.mesh.specs.declared.Refusal.{Refusal}
 use Rattle.mesh.specs.declared.Answer.{Answer}
 use Rattle.mesh.specs.declared.Answer.the-variants.{Done, Refused}
-use Rattle.mesh.specs.declared.Numbered.the-variants.{Number, NotNumbered}
 use Rattle.mesh.specs.declared.Placed.the-variants.{Found}
 use Rattle.mesh.specs.declared.Stepped.the-variants.{Led}
 
--- a value stands where every check is passed, and a refusal where one is not
-pub number-stands : (a : Answer) (n m : ℕ) → numbered a n ≡ Number m → (a ≡ Done) × (n ≡ m)
-number-stands Done n m e = (refl, (cc))
-number-stands (Refused r) n m e = let z : _≡_ {A = ℕ} 0 1 = cc in absurd (omega arith)
-
-pub number-refused : (a : Answer) (n : ℕ) (r : Refusal) → (numbered a n ≡ NotNumbered r) ↔ (a ≡ Refused r)
-number-refused Done n r = (λ e. let z : _≡_ {A = ℕ} 0 1 = cc in absurd (omega arith), λ e. let z : _≡_ {A = ℕ} 0 1 = cc in absurd (omega arith))
-number-refused (Refused q) n r = (λ e. let z : q ≡ r = cc in ap Refused z, λ e. let z : q ≡ r = cc in ap NotNumbered z)
-
+-- a value stands where every check is passed
 place-stands : (a : Answer) (p q : Place) → placed a p ≡ Found q → (a ≡ Done) × (p ≡ q)
 place-stands Done p q e = (refl, (cc))
 place-stands (Refused r) p q e = let z : _≡_ {A = ℕ} 0 1 = cc in absurd (omega arith)

@@ -126,14 +126,14 @@ module _ (S : Sizes) (p : Place) where
               let z : _≡_ {A = ℕ} 0 1 = cc in
               absurd (omega arith);
           nowhere = λ n. (refl, refl, refl, refl);
-          nothing = λ n. refl;
+          nothing = λ n. (refl, refl, refl, refl);
         }
         go (Refused r) d n e = record {
           order = gives step-checks (Refused r) d;
           led = λ g _. absurd (not-zero r g);
           ends = λ g _. absurd (not-zero r g);
           nowhere = λ n. (refl, refl, refl, refl);
-          nothing = λ n. refl;
+          nothing = λ n. (refl, refl, refl, refl);
         }
 
 module _ (S : Sizes) (k : ℕ) where
@@ -209,7 +209,7 @@ step-only S p j n m t u x y z x′ y′ z′ A B =
         (e ∙ sym e′, λ i. place ((a ∙ sym a′) i) ((b ∙ sym b′) i) ((c ∙ sym c′) i))
 
     go : n ≡ m → Dec (n ≡ 0) → Dec (t ≡ 1) → Dec (u ≡ 1) → (t ≡ u) × (place x y z ≡ place x′ y′ z′)
-    go same (no e) d d′ = nowhere (λ h. let f = A .nothing e in omega arith) (λ h. let f = B .nothing (λ z. e (same ∙ z)) in omega arith)
+    go same (no e) d d′ = nowhere (λ h. let f = A .nothing e .0 in omega arith) (λ h. let f = B .nothing (λ z. e (same ∙ z)) .0 in omega arith)
     go same (yes e) (yes f) (yes g) = (f ∙ sym g, one-step p j (place x y z) (place x′ y′ z′) (A .led e f .1) (B .led (sym same ∙ e) g .1))
     go same (yes e) (yes f) (no g) = let (i, o) = A .led e f in absurd (B .ends (sym same ∙ e) g (place x y z) i o)
     go same (yes e) (no f) (yes g) = let (i, o) = B .led (sym same ∙ e) g in absurd (A .ends e f (place x′ y′ z′) i o)

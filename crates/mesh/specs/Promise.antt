@@ -33,6 +33,6 @@ pub record StepPromise (S : Sizes) (p : Place) (j : ℕ) (refusal there x y z : 
   pub order : InRange S else 1 ∷ Inside S p else 5 ∷ (j ≤ 5) else 5 ∷ [] give refusal
   pub led : refusal ≡ 0 → there ≡ 1 → Inside S (place x y z) × OneStep p j (place x y z)
   pub ends : refusal ≡ 0 → there ≢ 1 → (q : Place) → Inside S q → OneStep p j q → ⊥
-  -- where it does not lead on, there is no other value
+  -- where it does not lead on, and on a refusal, every value is 0
   pub nowhere : there ≢ 1 → (there ≡ 0) × (x ≡ 0) × (y ≡ 0) × (z ≡ 0)
-  pub nothing : refusal ≢ 0 → there ≡ 0
+  pub nothing : refusal ≢ 0 → (there ≡ 0) × (x ≡ 0) × (y ≡ 0) × (z ≡ 0)

@@ -6,6 +6,7 @@ pub mod Reached
 pub mod Direct
 pub mod Verdicts
 pub mod Promise
+pub mod Only
 pub mod Computed
 pub mod Cases
 pub mod Impostors

@@ -1,5 +1,5 @@
--- The nodes between two places, in steps from the first towards the second, so that all eight ways to run are one case. The functions'
--- inner contracts are stated in these words; no promise is. Assumes nothing.
+-- The nodes between two places, in steps from the first towards the second, so that all eight ways to run are one case. Inner
+-- contracts are stated in these words, and so is the picture of a refusal. Assumes nothing.
 use mathlib.Core.Path.{_≡_}
 use mathlib.Core.Bool.{true, false, cond}
 use Prim.Native.Nat.{ℕ, _+_, _-_, _<_, _≤_}

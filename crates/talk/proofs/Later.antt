@@ -33,7 +33,7 @@ module _ (S : Sizes) (o : ℕ) where
   run-append [] b s = refl
   run-append (c ∷ a) b s = run-append a b (after S o s c)
 
-  stretch-split : (a b : List Call) (s : List ℕ) → T (stretch S o s (a ++ b)) → T (stretch S o s a) × T (stretch S o (run S o s a) b)
+  pub stretch-split : (a b : List Call) (s : List ℕ) → T (stretch S o s (a ++ b)) → T (stretch S o s a) × T (stretch S o (run S o s a) b)
   stretch-split [] b s t = (tt, t)
   stretch-split (c ∷ a) b s t =
       let s′ = after S o s c in

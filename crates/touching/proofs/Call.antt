@@ -86,6 +86,7 @@ module _ (S : Sizes) (cells : List ℕ) (o : ℕ) where
         record {
           order = rw number (gives (componentsChecks S cells o (length table) (length row)) c (components-decided (length table) (length row)));
           names-bad = rw (number, bad) (components-bad (length table) (length row));
+          counted = λ g. value ∙ ap (λ (a : Answer). answerValue a (howMany S marks)) (done-of c (sym number ∙ g));
           grouped = λ g. let e = done-of c (sym number ∙ g) in rw (value, e) (written-grouped table row);
           nothing = λ n.
               let (r, e) = refused-of c (λ z. n (number ∙ z)) in

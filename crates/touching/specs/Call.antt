@@ -31,5 +31,6 @@ pub record ComponentsPromise (S : Sizes) (cells : List ℕ) (o : ℕ) (table : L
   pub order : componentsChecks S cells o (length table) (length row) give refusal
   pub names-bad : NamesBad S cells refusal bad
   -- then "The number of components is returned", and they stand in front; on a refusal it is 0, and neither has changed.
+  pub counted : refusal ≡ 0 → n ≡ howMany S (marksOf (mapOf S cells) o)
   pub grouped : refusal ≡ 0 → Grouped S cells o n table newTable row newRow
   pub nothing : refusal ≢ 0 → (n ≡ 0) × (newTable ≡ table) × (newRow ≡ row)
