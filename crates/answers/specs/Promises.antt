@@ -41,8 +41,8 @@ dk-step w h d x y z direction answer =
 
 -- ---- marks and components (rules/specs/Promise.antt, touching/specs/Call.antt)
 
--- Refused by 1, 2, 4, 5, 3. Else the bytes in front are marks by 01's two rules; no others obey them, and none that leave out no node which a rule
--- marks have fewer. The bytes after them are as they were.
+-- Refused by 1, 2, 4, 5, 3. Else the bytes in front are marks by 01's two rules; no others obey them, and marks that omit no node which a rule marks
+-- include at least these. The bytes after them are as they were.
 abbrev pub dk-marks : (w h d orientation : ℕ) (cells out : List ℕ) → DoneAnswer → List ℕ → Type 0
 dk-marks w h d orientation cells out answer new = MarksPromise (sizes w h d) cells orientation out (answer .refusal) (answer .bad) new
 
@@ -60,7 +60,7 @@ abbrev pub dk-verdict : (w h d start end : ℕ) (cells : List ℕ) → VerdictAn
 dk-verdict w h d start end cells answer =
     VerdictPromise (sizes w h d) cells start end (answer .refusal) (answer .bad) (answer .hops) (answer .offered)
 
--- Refused as the verdict is, and by 3. Else `count` numbers stand in front, hops + 1: a path that takes the lowest offered direction at each node.
+-- Refused by 1, 2, 4, 5, 9, 10, 3. Else `count` numbers stand in front, hops + 1: a path that takes the lowest offered direction at each node.
 abbrev pub dk-route : (w h d start end : ℕ) (cells out : List ℕ) → CountedAnswer → List ℕ → Type 0
 dk-route w h d start end cells out answer new =
     RoutePromise (sizes w h d) cells start end out (answer .refusal) (answer .bad) (answer .count) new
@@ -77,7 +77,7 @@ dk-reached w h d start end cells out answer new =
 abbrev pub dk-fresh : (w h d orientation : ℕ) (cells state : List ℕ) → DoneAnswer → List ℕ → Type 0
 dk-fresh w h d orientation cells state answer new = FreshCall (sizes w h d) cells orientation state (answer .refusal) (answer .bad) new
 
--- Refused by 1, 2, 5, 6: not by 6 exactly if the state is sound.
+-- Refused by 1, 2, 5, 6. So it is granted exactly if sizes, length and orientation are in order and the state is sound.
 abbrev pub dk-sound : (w h d orientation : ℕ) (state : List ℕ) → DoneAnswer → Type 0
 dk-sound w h d orientation state answer = SoundCall (sizes w h d) orientation state (answer .refusal) (answer .bad)
 
