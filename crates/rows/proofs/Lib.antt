@@ -1,0 +1,4 @@
+pub mod Bits
+pub mod Carries
+pub mod Eight
+pub mod Packs

@@ -1,0 +1,15 @@
+// A row of nodes as one number: bit k is that of the node k steps on.
+pub mod pack;
+
+ghost use mathlib.Core.Path.{_≡_};
+ghost use Prim.Native.Nat.{ℕ};
+ghost use Rattle.rows.specs.Row.{bitAt, swept};
+
+// The sweep of a row: the carries of one addition. No bit is set where none of `pass` is.
+pub fn sweep_row(pass: u16, from: u16, link: u16) -> u16
+    ensures { λ r. ⌜ ((k : ℕ) → bitAt r k ≡ swept (bitAt pass) (bitAt from) (bitAt link) k) ⌝ }
+{
+    let a = (pass & from) as u32;
+    let p = (pass & (from | link)) as u32;
+    (((a + p) ^ a ^ p) >> 1) as u16
+}
