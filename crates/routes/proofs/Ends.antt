@@ -67,6 +67,7 @@ module _ (S : Sizes) (cells : List ℕ) (s e : ℕ) where
       record {
         sized = c .sized;
         whole = c .whole;
+        good = c .good;
         start-in = place-in S s (node-granted S s l);
         end-in = place-in S e (node-granted S e k);
         end-may = holds-true (mayEnd (cellAt m (placeOf S e))) .1 (ok-of (mayEnd (cellAt m (placeOf S e))) FaultyEnd b);

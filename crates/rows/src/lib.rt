@@ -2,7 +2,7 @@
 pub mod pack;
 
 ghost use mathlib.Core.Path.{_≡_};
-ghost use Prim.Native.Nat.{ℕ};
+ghost use Prim.Native.Nat.{ℕ, _+_, _^_, _≤_};
 ghost use Rattle.rows.specs.Row.{bitAt, swept};
 
 // The sweep of a row: the carries of one addition. No bit is set where none of `pass` is.
@@ -12,4 +12,12 @@ pub fn sweep_row(pass: u16, from: u16, link: u16) -> u16
     let a = (pass & from) as u32;
     let p = (pass & (from | link)) as u32;
     (((a + p) ^ a ^ p) >> 1) as u16
+}
+
+// w bits, all set.
+pub fn full(w: usize) -> u16
+    requires { ⌜ w ≤ 16 ⌝ }
+    ensures { λ r. ⌜ r + 1 ≡ 2 ^ w ⌝ }
+{
+    ((1u32 << w) - 1) as u16
 }

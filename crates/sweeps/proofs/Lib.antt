@@ -8,3 +8,4 @@ pub mod Entered
 pub mod Backward
 pub mod Forward
 pub mod Flags
+pub mod RowSweep

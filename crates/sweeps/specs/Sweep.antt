@@ -9,9 +9,10 @@ use lib.Bits.{bitAnd, bitOr}
 use lib.Dec.{T, ltb, eqb}
 use Rattle.mesh.specs.Tools.{bit}
 use Rattle.mesh.specs.Mesh.{Axis, X, Y, Z, on, InRange, Inside, place, nodes, number}
-use Rattle.mesh.specs.Cells.{Map, mapOf, cellAt, mayPass, mayEnd}
+use Rattle.mesh.specs.Cells.{Map, mapOf, cellAt, mayPass, mayEnd, badCell}
 use Rattle.mesh.specs.declared.Sizes.{Sizes}
 use Rattle.mesh.specs.declared.Place.{Place}
+use Rattle.rows.specs.Row.{bitAt}
 use Rattle.paths.specs.declared.Wanted.{Wanted}
 use Rattle.paths.specs.declared.Wanted.the-variants.{Way, Level}
 use Rattle.sweeps.specs.Box.{gone, reach, Within, OnAxis, Held}
@@ -48,16 +49,16 @@ pub record Seen (m : Map) (g : Between) (seen : Place → Bool) : Type 0 where
 abbrev pub spot : Sizes → Between → ℕ → ℕ → ℕ → ℕ
 spot S g a b k = number S (reach g (place a b k))
 
--- the box as one layer, each layer of which goes over the one before
-abbrev pub flat : Between → Between
-flat g = record { x = g .x; y = g .y; z = record { from = 0; steps = 0; down = false } }
-
 -- the layer before layer c: before the first only the corner is seen
 abbrev pub prior : (Place → Bool) → ℕ → ℕ → ℕ → Bool
 prior seen zero a b = eqb a 0 && eqb b 0
 prior seen (suc c) a b = seen (place a b c)
 
 -- ---- contracts
+
+-- each byte is a cell
+abbrev pub Good : Sizes → List ℕ → Type 0
+Good S cells = (k : ℕ) → k < length cells → badCell S k (getD cells k 0) ≡ false
 
 -- a byte for each node of a mesh, and a box in it
 pub record Ready (S : Sizes) (cells : List ℕ) (g : Between) : Type 0 where
@@ -69,6 +70,7 @@ pub record Ready (S : Sizes) (cells : List ℕ) (g : Between) : Type 0 where
 pub record Ends (S : Sizes) (cells : List ℕ) (p e : Place) : Type 0 where
   pub sized : InRange S
   pub whole : length cells ≡ nodes S
+  pub good : Good S cells
   pub start-in : Inside S p
   pub end-in : Inside S e
   pub end-may : T (mayEnd (cellAt (mapOf S cells) e))
@@ -132,18 +134,6 @@ pub record Layer (S : Sizes) (cells old new : List ℕ) (g : Between) (base k be
   pub kept : (i : ℕ) → ((a b : ℕ) → a ≤ g .x .steps → b < n → b ≤ g .y .steps → i ≡ spot S g a b k → ⊥) → getD new i 0 ≡ getD old i 0
   pub size : length new ≡ length old
 
--- the bytes of one layer say what `f a b` says; layers i to n, each over the one before
-abbrev pub Holds : Sizes → Between → (ℕ → ℕ → Bool) → List ℕ → Type 0
-Holds S g f layer = (a b : ℕ) → a ≤ g .x .steps → b ≤ g .y .steps → getD layer (spot S (flat g) a b 0) 0 ≡ bit (f a b)
-
-pub record Layers (m : Map) (g : Between) (i n : ℕ) (old new : List ℕ) : Type 0 where
-  pub holds : (seen : Place → Bool) → Seen m g seen → Holds (m .sizes) g (prior seen i) old → Holds (m .sizes) g (prior seen n) new
-  pub size : length new ≡ length old
-
--- the bytes before the first layer: only the corner is seen
-abbrev pub seed : ℕ → List ℕ
-seed corner = set (replicate 256 0) corner 1
-
 -- the byte of the node x, y and z steps nearer to the corner than t, if a step is left
 abbrev pub entered : Sizes → Between → List ℕ → Place → ℕ → ℕ → ℕ → ℕ → ℕ
 entered S g bytes t left x y z = cond (ltb 0 left) (getD bytes (spot S g (t .x - x) (t .y - y) (t .z - z)) 0) 0
@@ -164,3 +154,33 @@ WaysTo m g t w = (seen : Place → Bool) → Seen m g seen → w ≡ waysOf seen
 abbrev pub flagOf : Wanted → ℕ → ℕ
 flagOf (Way j) seen = seen * 2 ^ j
 flagOf Level seen = 0
+
+-- ---- rows of bits
+
+-- the rows of one layer say what `f a b` says
+abbrev pub Holds : Between → (ℕ → ℕ → Bool) → List ℕ → Type 0
+Holds g f rows = (a b : ℕ) → a ≤ g .x .steps → b ≤ g .y .steps → bitAt (getD rows b 0) a ≡ f a b
+
+-- the row before row b; none before the first
+abbrev pub rowBefore : List ℕ → ℕ → ℕ
+rowBefore rows b = cond (ltb 0 b) (getD rows (b - 1) 0) 0
+
+-- the first n rows of layer c, over those of the layer before
+pub record Over (m : Map) (g : Between) (c n : ℕ) (old new : List ℕ) : Type 0 where
+  pub at : (seen : Place → Bool) → Seen m g seen → Holds g (prior seen c) old
+      → (a b : ℕ) → a ≤ g .x .steps → b < n → b ≤ g .y .steps → bitAt (getD new b 0) a ≡ seen (place a b c)
+  pub kept : (b : ℕ) → n ≤ b → getD new b 0 ≡ getD old b 0
+  pub size : length new ≡ length old
+
+-- layers i to n, each over the one before
+pub record Layers (m : Map) (g : Between) (i n : ℕ) (old new : List ℕ) : Type 0 where
+  pub holds : (seen : Place → Bool) → Seen m g seen → Holds g (prior seen i) old → Holds g (prior seen n) new
+  pub size : length new ≡ length old
+
+-- the rows before the first layer: only the corner is seen
+abbrev pub seed : List ℕ
+seed = set (replicate 16 0) 0 1
+
+-- the bit of the node x and y steps nearer to the corner than the one a and b steps away, if a step is left
+abbrev pub seenAt : List ℕ → ℕ → ℕ → ℕ → ℕ → ℕ → Bool
+seenAt rows left a x b y = ltb 0 left && bitAt (getD rows (b - y) 0) (a - x)

@@ -9,7 +9,6 @@ ghost use mathlib.Core.Path.{_≡_};
 ghost use Prim.Native.Nat.{_≤_, _<_};
 ghost use Rattle.mesh.specs.Mesh.{InRange, Inside, place, nodes, number};
 ghost use Rattle.sweeps.specs.Box.{largest, run, between, gone, reach, far, rowRun, OnAxis, Held, Within};
-ghost use Rattle.sweeps.specs.Sweep.{flat};
 
 // One axis, from one coordinate to another.
 fn run(from: usize, to: usize) -> Run
@@ -59,20 +58,6 @@ impl Between {
             y: self.y.steps,
             z: self.z.steps,
         }
-    }
-
-    // The box as one layer.
-    pub(crate) fn flat(self) -> Between
-        ensures { λ r. ⌜ r ≡ flat self ⌝ }
-    {
-        let x = self.x;
-        let y = self.y;
-        let z = Run {
-            from: 0,
-            steps: 0,
-            down: false,
-        };
-        Between { x, y, z }
     }
 
     // The nodes of the row after b and c steps.

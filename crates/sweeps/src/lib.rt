@@ -1,5 +1,6 @@
 // The sweep of the nodes between two places, from one of them on: which are seen, and the offered set that follows.
 
+pub mod bits;
 pub mod boxes;
 pub mod offers;
 pub mod signed;

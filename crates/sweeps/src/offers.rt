@@ -1,14 +1,13 @@
 // The offered set at the start of a route, from a sweep that begins at its end.
 use crate::Between;
 use crate::Ways;
+use crate::bits::over;
+use crate::bits::seeded;
+use crate::bits::seen_at;
+use crate::bits::sweep;
 use crate::boxes::between;
 use crate::signed::difference;
 use crate::signed::way;
-use crate::sweep::entered;
-use crate::sweep::over;
-use crate::sweep::seeded;
-use crate::sweep::sweep;
-use crate::sweep::ways_in;
 use mesh::Place;
 use mesh::Sizes;
 use paths::Wanted;
@@ -21,22 +20,25 @@ ghost use Rattle.mesh.specs.Cells.{mapOf};
 ghost use Rattle.paths.specs.Differences.{wanted};
 ghost use Rattle.paths.specs.Offered.{offered};
 ghost use Rattle.sweeps.specs.Box.{far};
-ghost use Rattle.sweeps.specs.Sweep.{Ready, Ends, WaysTo, flagOf};
+ghost use Rattle.sweeps.specs.Sweep.{Good, Ready, Ends, WaysTo, flagOf};
 
 // The ways into the far corner of a box. The layer before the last is read where the last one goes over it.
 fn ways(s: Sizes, cells: &[u8], g: Between) -> Ways
-    requires { ⌜ Ready s (now cells) g ⌝ }
+    requires { ⌜ Ready s (now cells) g × Good s (now cells) ⌝ }
     ensures { λ r. ⌜ WaysTo (mapOf s (now (cells .entry))) g (far g) r ⌝ }
 {
+    let a = g.x.steps;
+    let b = g.y.steps;
     let c = g.z.steps;
-    let f = g.flat();
-    let mut layer = seeded(f.node(s, 0, 0, 0));
-    sweep(s, cells, g, c, &mut layer);
-    let t = f.far();
-    let z = entered(s, f, &layer, t, c, 0, 0, 0);
-    over(s, cells, g, c, &mut layer);
-    let w = ways_in(s, f, &layer, t);
-    Ways { x: w.x, y: w.y, z }
+    let mut rows = seeded();
+    sweep(s, cells, g, c, &mut rows);
+    let z = seen_at(&rows, c, a, 0, b, 0);
+    over(s, cells, g, c, &mut rows);
+    Ways {
+        x: seen_at(&rows, a, a, 1, b, 0),
+        y: seen_at(&rows, b, a, 0, b, 1),
+        z,
+    }
 }
 
 // Does a path lead between two corners, h hops apart, with these ways into the second?

@@ -1,5 +1,4 @@
-// The sweep: which nodes of a box are seen from its first corner. A node's byte is 1 if it is seen, else 0. It stands at the node's number;
-// or each layer goes over the one before, in a row of 256 bytes.
+// The sweep with a byte for each node, 1 if it is seen from the box's first corner, else 0. It stands at the node's number.
 use crate::Between;
 use crate::Run;
 use crate::Ways;
@@ -8,10 +7,9 @@ use mesh::Place;
 use mesh::Sizes;
 ghost use mathlib.Core.Path.{_≡_};
 ghost use Prim.Native.Nat.{_+_, _≤_, _<_};
-ghost use lib.ListN.{length};
-ghost use Rattle.mesh.specs.Cells.{mapOf, mayPass};
+ghost use Rattle.mesh.specs.Cells.{mayPass};
 ghost use Rattle.sweeps.specs.Box.{Within};
-ghost use Rattle.sweeps.specs.Sweep.{joined, seed, entered, waysIn, Rows, Row, Room, Laid, Layer, Layers, Ready};
+ghost use Rattle.sweeps.specs.Sweep.{joined, entered, waysIn, Rows, Row, Room, Laid, Layer};
 
 // Seen if it may be passed and one of three bytes is 1.
 fn join(cell: u8, y: u8, z: u8, x: u8) -> u8
@@ -70,48 +68,8 @@ pub fn sweep_layer(
     }
 }
 
-// Layer c, over the layer before it.
-pub(crate) fn over(s: Sizes, cells: &[u8], g: Between, c: usize, layer: &mut [u8])
-    requires { ⌜ Ready s (now cells) g × (length (now layer) ≡ 256) × (c ≤ g .z .steps) ⌝ }
-    ensures { λ _. ⌜ Layers (mapOf s (now (cells .entry))) g c (c + 1) (now (layer .entry)) (now (layer .exit)) ⌝ }
-{
-    let f = g.flat();
-    sweep_layer(
-        s,
-        cells,
-        g.node(s, 0, 0, c) - f.node(s, 0, 0, 0),
-        f,
-        0,
-        0,
-        (c == 0) as usize,
-        layer,
-    );
-}
-
-// The first n layers, each over the one before.
-pub(crate) fn sweep(s: Sizes, cells: &[u8], g: Between, n: usize, layer: &mut [u8])
-    requires { ⌜ Ready s (now cells) g × (length (now layer) ≡ 256) × (n ≤ g .z .steps) ⌝ }
-    ensures { λ _. ⌜ Layers (mapOf s (now (cells .entry))) g 0 n (now (layer .entry)) (now (layer .exit)) ⌝ }
-{
-    let mut c = 0;
-    while c < n {
-        over(s, cells, g, c, layer);
-        c += 1;
-    }
-}
-
-// What there is before the first layer: only the corner is seen.
-pub(crate) fn seeded(corner: usize) -> [u8; 256]
-    requires { ⌜ corner < 256 ⌝ }
-    ensures { λ r. ⌜ r ≡ seed corner ⌝ }
-{
-    let mut layer = [0u8; 256];
-    layer[corner] = 1;
-    layer
-}
-
 // The byte of the node x, y and z steps nearer to the corner than t; 0 if no step is left.
-pub(crate) fn entered(
+fn entered(
     s: Sizes,
     g: Between,
     bytes: &[u8],

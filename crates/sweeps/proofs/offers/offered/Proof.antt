@@ -48,7 +48,7 @@ ways-requires : tie.Need-ways-requires
 ways-requires c κs =
     let s = c .before .before in
     rw (c .between .ensures)
-    (record { sized = s .pre .sized; whole = s .pre .whole; held = held (s .args .s) (s .args .e) (s .args .p) (s .pre .end-in) (s .pre .start-in) })
+    (record { sized = s .pre .sized; whole = s .pre .whole; held = held (s .args .s) (s .args .e) (s .args .p) (s .pre .end-in) (s .pre .start-in) }, s .pre .good)
 
 flag-requires : tie.Need-flag-requires
 flag-requires c κs = let d = c .difference in (omega arith, rw (back (d .result) (omega arith)) (d .ensures .1), low (c .before) .0)

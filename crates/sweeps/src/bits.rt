@@ -1,0 +1,75 @@
+// The sweep by rows: bit a of row b is 1 if the node a and b steps away is seen. Each layer goes over the one before, in sixteen numbers.
+use crate::Between;
+use mesh::Sizes;
+use rows::full;
+use rows::pack::pack_row;
+use rows::sweep_row;
+ghost use mathlib.Core.Path.{_≡_};
+ghost use Prim.Native.Nat.{ℕ, _+_, _≤_, _<_};
+ghost use Rattle.mesh.specs.Tools.{bit};
+ghost use lib.ListN.{length};
+ghost use Rattle.mesh.specs.Mesh.{place};
+ghost use Rattle.mesh.specs.Cells.{mapOf, cellAt, mayPass};
+ghost use Rattle.rows.specs.Row.{bitAt};
+ghost use Rattle.sweeps.specs.Box.{reach};
+ghost use Rattle.sweeps.specs.Sweep.{Good, Ready, Layers, seed, seenAt};
+
+// The nodes of row b of layer c that may be passed.
+fn pass_row(s: Sizes, cells: &[u8], g: Between, b: usize, c: usize) -> u16
+    requires { ⌜ Ready s (now cells) g × Good s (now cells) × (b ≤ g .y .steps) × (c ≤ g .z .steps) ⌝ }
+    ensures { λ r. ⌜ ((a : ℕ) → a ≤ g .x .steps → bitAt r a ≡ mayPass (cellAt (mapOf s (now (cells .entry))) (reach g (place a b c)))) ⌝ }
+{
+    let x = g.x;
+    let w = x.steps + 1;
+    full(w) - pack_row(cells, 0, g.node(s, 0, b, c), w, x.down)
+}
+
+// Layer c, over the layer before it. The corner is seen by itself, whether or not it may be passed.
+pub(crate) fn over(s: Sizes, cells: &[u8], g: Between, c: usize, rows: &mut [u16])
+    requires { ⌜ Ready s (now cells) g × Good s (now cells) × (length (now rows) ≡ 16) × (c ≤ g .z .steps) ⌝ }
+    ensures { λ _. ⌜ Layers (mapOf s (now (cells .entry))) g c (c + 1) (now (rows .entry)) (now (rows .exit)) ⌝ }
+{
+    let n = g.y.steps + 1;
+    let mut first = (c == 0) as u16;
+    let mut last: u16 = 0;
+    let mut b = 0;
+    while b < n {
+        let pass = pass_row(s, cells, g, b, c) | first;
+        last = sweep_row(pass, last | rows[b], pass);
+        rows[b] = last;
+        first = 0;
+        b += 1;
+    }
+}
+
+// The first n layers, each over the one before.
+pub(crate) fn sweep(s: Sizes, cells: &[u8], g: Between, n: usize, rows: &mut [u16])
+    requires { ⌜ Ready s (now cells) g × Good s (now cells) × (length (now rows) ≡ 16) × (n ≤ g .z .steps) ⌝ }
+    ensures { λ _. ⌜ Layers (mapOf s (now (cells .entry))) g 0 n (now (rows .entry)) (now (rows .exit)) ⌝ }
+{
+    let mut c = 0;
+    while c < n {
+        over(s, cells, g, c, rows);
+        c += 1;
+    }
+}
+
+// What there is before the first layer: only the corner is seen.
+pub(crate) fn seeded() -> [u16; 16]
+    ensures { λ r. ⌜ r ≡ seed ⌝ }
+{
+    let mut rows = [0u16; 16];
+    rows[0] = 1;
+    rows
+}
+
+// The bit of the node x and y steps nearer to the corner than the one a and b steps away; 0 if no step is left.
+pub(crate) fn seen_at(rows: &[u16], left: usize, a: usize, x: usize, b: usize, y: usize) -> u8
+    requires { ⌜ (length (now rows) ≡ 16) × (a < 16) × (b < 16) × (0 < left → (x ≤ a) × (y ≤ b)) ⌝ }
+    ensures { λ r. ⌜ r ≡ bit (seenAt (now (rows .entry)) left a x b y) ⌝ }
+{
+    if left == 0 {
+        return 0;
+    }
+    ((rows[b - y] >> (a - x)) % 2) as u8
+}
