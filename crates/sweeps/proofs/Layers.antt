@@ -1,4 +1,4 @@
--- Layer after layer: what is seen in each, wherever it stands; and each over the one before, in one row of bytes. Assumes nothing.
+-- Layer after layer: what is seen in each, and the bytes that say it. Assumes nothing.
 use mathlib.Core.Path.{_≡_, refl, sym, ap, _∙_, subst}
 use mathlib.Core.Bool.{Bool, true, false, _&&_, _||_}
 use mathlib.Core.List.{List}
@@ -48,19 +48,17 @@ module _ (m : Map) (g : Between) (seen : Place → Bool) (Q : Seen m g seen) (c 
       (λ e. off (omega (arith, ap (λ (t : Place). t .x) e, ap (λ (t : Place). t .y) e, ap (λ (t : Place). t .z) e)))
       ∙ rw (prior-is seen a b c off)
 
-  -- the bytes of the layer before, wherever they stand, make this one
-  pub wave : (f : Between) → f .x .steps ≡ g .x .steps → f .y .steps ≡ g .y .steps → (base k behind first : ℕ) (old : List ℕ) → first ≡ bit (eqb c 0)
-      → (c ≡ 0 → behind ≡ k)
-      → ((a b : ℕ) → base + spot (m .sizes) f a b k ≡ spot (m .sizes) g a b c)
-      → ((a b : ℕ) → a ≤ g .x .steps → b ≤ g .y .steps → getD old (spot (m .sizes) f a b behind) 0 ≡ bit (prior seen c a b))
-      → Wave (m .sizes) (m .cells) old f base k behind first (prior seen c) (λ a b. seen (place a b c))
-  wave f ex ey base k behind first old ef same cell before = record {
-    before = λ a b la lb. before a b (omega arith) (omega arith);
+  -- the bytes of the layer before make this one
+  pub wave : (behind first : ℕ) (old : List ℕ) → first ≡ bit (eqb c 0) → (c ≡ 0 → behind ≡ c)
+      → ((a b : ℕ) → a ≤ g .x .steps → b ≤ g .y .steps → getD old (spot (m .sizes) g a b behind) 0 ≡ bit (prior seen c a b))
+      → Wave (m .sizes) (m .cells) old g c behind first (prior seen c) (λ a b. seen (place a b c))
+  wave behind first old ef same before = record {
+    before = before;
     corner = λ e. let z = first-is e in (
-      subst (λ (i : ℕ). getD old (spot (m .sizes) f 0 0 i) 0 ≡ 1) (same z) (before 0 0 (omega arith) (omega arith) ∙ rw z),
+      subst (λ (i : ℕ). getD old (spot (m .sizes) g 0 0 i) 0 ≡ 1) (same z) (before 0 0 (omega arith) (omega arith) ∙ rw z),
       rw z (Q .corner),
     );
-    later = λ a b la lb off. next-seen a b (omega arith) (omega arith) (λ z. off (ef ∙ rw (is-zero a b z)) (omega arith)) ∙ rw (cell a b);
+    later = λ a b la lb off. next-seen a b la lb (λ z. off (ef ∙ rw (is-zero a b z)) (omega arith));
   }
     where
       is-zero : (a b : ℕ) → (a + b) + c ≡ 0 → c ≡ 0

@@ -31,14 +31,14 @@ beside-at r y n k a o o′ h = split (r .down) refl
     split true e = omega (arith, o .low e, o′ .low e)
     split false e = omega arith
 
-pub row-none : (cells old : List ℕ) (r : Run) (base y z from : ℕ) → Row cells old old r base y z from from
-row-none cells old r base y z from = record { done = λ a h l. absurd (omega arith); kept = λ i h. refl; size = refl }
+pub row-none : (cells old : List ℕ) (r : Run) (y z from : ℕ) → Row cells old old r y z from from
+row-none cells old r y z from = record { done = λ a h l. absurd (omega arith); kept = λ i h. refl; size = refl }
 
 pub leading-first : (bytes : List ℕ) (r : Run) (from : ℕ) → from ≡ leading bytes r from from
 leading-first bytes r from = rw (le-ltb from from (omega arith))
 
-module _ (cells old new : List ℕ) (r : Run) (base y z from a : ℕ) (R : Row cells old new r base y z from a) (h : from ≤ a) (l : a ≤ r .steps)
-    (B : Rows cells old r base y z) where
+module _ (cells old new : List ℕ) (r : Run) (y z from a : ℕ) (R : Row cells old new r y z from a) (h : from ≤ a) (l : a ≤ r .steps)
+    (B : Rows cells old r y z) where
   apart : (i : ℕ) → i < a → gone r i ≡ gone r a → ⊥
   apart i k e = omega (arith, gone-same r 4096 (B .small) i a (omega arith) l e)
 
@@ -59,8 +59,8 @@ module _ (cells old new : List ℕ) (r : Run) (base y z from a : ℕ) (R : Row c
       rw (lt-ltb from (a + 1) (omega arith), e) (sym (getD-set-same new (gone r a) v 0 k))
 
   pub row-more : (v : ℕ) → gone r a < length new
-      → v ≡ joined (mayPass (getD cells (base + gone r a) 0)) (getD new (gone (beside r y) a) 0) (getD new (gone (beside r z) a) 0) (leading new r from a)
-      → Row cells old (set new (gone r a) v) r base y z from (a + 1)
+      → v ≡ joined (mayPass (getD cells (gone r a) 0)) (getD new (gone (beside r y) a) 0) (getD new (gone (beside r z) a) 0) (leading new r from a)
+      → Row cells old (set new (gone r a) v) r y z from (a + 1)
   row-more v len e = record {
     done = λ i k n. elim (eq-or-lt-of-le (le-of i n)) [
       | inl q ↦ rw q here
@@ -74,7 +74,7 @@ module _ (cells old new : List ℕ) (r : Run) (base y z from a : ℕ) (R : Row c
       le-of i n = omega arith
 
       here : getD (set new (gone r a) v) (gone r a) 0
-          ≡ joined (mayPass (getD cells (base + gone r a) 0)) (getD old (gone (beside r y) a) 0) (getD old (gone (beside r z) a) 0) (leading (set new (gone r a) v) r from a)
+          ≡ joined (mayPass (getD cells (gone r a) 0)) (getD old (gone (beside r y) a) 0) (getD old (gone (beside r z) a) 0) (leading (set new (gone r a) v) r from a)
       here = getD-set-same new (gone r a) v 0 len ∙ e ∙ rw (beside-kept y (B .y-row), beside-kept z (B .z-row), leading-set v a (omega arith))
 
 -- ---- the rows of a box

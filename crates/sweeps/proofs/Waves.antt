@@ -60,7 +60,7 @@ from-next first b = rw (ne-eqb (b + 1) 0 (λ e. omega arith))
 pub row-next : (S : Sizes) (g : Between) (r : Run) (b k behind : ℕ) → r ≡ rowRun S g b k → r .from ≡ spot S g 0 (b + 1 - 1) (layerOf (b + 1) k behind)
 row-next S g r b k behind e = let i : b + 1 - 1 ≡ b = omega arith in rw (e, i, ne-eqb (b + 1) 0 (λ q. omega arith))
 
-module _ (S : Sizes) (cells bytes : List ℕ) (g : Between) (base k behind : ℕ) (L : Laid S cells bytes g base k behind) where
+module _ (S : Sizes) (cells bytes : List ℕ) (g : Between) (k behind : ℕ) (L : Laid S cells bytes g k behind) where
   small : (t : Place) → Within g t → number S (reach g t) < 4096
   small t w = omega (arith, number-lt S (reach g t) (reach-in S g t (L .room .held) w), nodes-le S (L .room .sized))
 
@@ -83,7 +83,7 @@ module _ (S : Sizes) (cells bytes : List ℕ) (g : Between) (base k behind : ℕ
 
   -- every row may be written
   pub rows-of : (mid : List ℕ) → length mid ≡ length bytes → (b : ℕ) → b ≤ g .y .steps
-      → Rows cells mid (rowRun S g b k) base (spot S g 0 (b - 1) (layerOf b k behind)) (spot S g 0 b behind)
+      → Rows cells mid (rowRun S g b k) (spot S g 0 (b - 1) (layerOf b k behind)) (spot S g 0 b behind)
   rows-of mid e b hb =
       let h = L .room .held in
       record {
@@ -114,12 +114,12 @@ or-turn (suc b) x y z = rw (ne-eqb (suc b) 0 (λ e. omega arith), lt-ltb 0 (suc 
     three false false true = refl
     three false false false = refl
 
-pub layer-none : (S : Sizes) (cells old : List ℕ) (g : Between) (base k behind first : ℕ) → Layer S cells old old g base k behind first 0
-layer-none S cells old g base k behind first = record { at = λ prev this W a b la l lb. absurd (omega arith); kept = λ i h. refl; size = refl }
+pub layer-none : (S : Sizes) (cells old : List ℕ) (g : Between) (k behind first : ℕ) → Layer S cells old old g k behind first 0
+layer-none S cells old g k behind first = record { at = λ prev this W a b la l lb. absurd (omega arith); kept = λ i h. refl; size = refl }
 
-module _ (S : Sizes) (cells old mid new : List ℕ) (g : Between) (base k behind first b : ℕ) (L : Laid S cells old g base k behind) (hf : first ≤ 1)
-    (hb : b ≤ g .y .steps) (P : Layer S cells old mid g base k behind first b)
-    (R : Row cells mid new (rowRun S g b k) base (spot S g 0 (b - 1) (layerOf b k behind)) (spot S g 0 b behind) (fromOf first b) (g .x .steps + 1)) where
+module _ (S : Sizes) (cells old mid new : List ℕ) (g : Between) (k behind first b : ℕ) (L : Laid S cells old g k behind) (hf : first ≤ 1)
+    (hb : b ≤ g .y .steps) (P : Layer S cells old mid g k behind first b)
+    (R : Row cells mid new (rowRun S g b k) (spot S g 0 (b - 1) (layerOf b k behind)) (spot S g 0 b behind) (fromOf first b) (g .x .steps + 1)) where
   held : Held S g
   held = L .room .held
 
@@ -134,7 +134,7 @@ module _ (S : Sizes) (cells old mid new : List ℕ) (g : Between) (base k behind
       le-of : (j : ℕ) → j < g .x .steps + 1 → j ≤ g .x .steps
       le-of j l = omega arith
 
-  module _ (prev this : ℕ → ℕ → Bool) (W : Wave S cells old g base k behind first prev this) where
+  module _ (prev this : ℕ → ℕ → Bool) (W : Wave S cells old g k behind first prev this) where
     z-byte : (a : ℕ) → a ≤ g .x .steps → getD mid (spot S g a b behind) 0 ≡ bit (prev a b)
     z-byte a l = P .kept (spot S g a b behind)
         (λ j i lj li hi e. omega (arith, spot-same S g held a b behind j i k (record { x-le = l; y-le = hb; z-le = L .back }) (here j i lj hi) e))
@@ -194,8 +194,8 @@ module _ (S : Sizes) (cells old mid new : List ℕ) (g : Between) (base k behind
     later : (a : ℕ) → a ≤ g .x .steps → fromOf first b ≤ a → (first ≡ 1 → a + b ≡ 0 → ⊥)
         → ((i : ℕ) → i < a → getD new (spot S g i b k) 0 ≡ bit (this i b)) → getD new (spot S g a b k) 0 ≡ bit (this a b)
     later a l f off ih =
-        let ok : Bool = mayPass (getD cells (base + spot S g a b k) 0) in
-        let e : getD new (spot S g a b k) 0 ≡ joined (mayPass (getD cells (base + gone (rowRun S g b k) a) 0))
+        let ok : Bool = mayPass (getD cells (spot S g a b k) 0) in
+        let e : getD new (spot S g a b k) 0 ≡ joined (mayPass (getD cells (gone (rowRun S g b k) a) 0))
         (getD mid (gone (rowRun S g (b - 1) (layerOf b k behind)) a) 0) (getD mid (gone (rowRun S g b behind) a) 0) (leading new (rowRun S g b k) (fromOf first b) a)
         = ap (λ (i : ℕ). getD new i 0) (sym (gone-row S g held a b k l)) ∙ R .done a f (omega arith) in
         e
@@ -228,7 +228,7 @@ module _ (S : Sizes) (cells old mid new : List ℕ) (g : Between) (base k behind
             from-zero : first ≡ 1 → n + b ≡ 0 → fromOf first b ≡ 1
             from-zero f y = let q : b ≡ 0 = omega arith in rw (q, f)
 
-  pub layer-more : Layer S cells old new g base k behind first (b + 1)
+  pub layer-more : Layer S cells old new g k behind first (b + 1)
   layer-more = record {
     at = λ prev this W a i la l li. elim (eq-or-lt-of-le (le-of i l)) [
       | inl e ↦ rw e (at-row prev this W (g .x .steps + 1) (omega arith) a (omega arith))

@@ -89,11 +89,11 @@ pub record Beside (bytes : List ℕ) (r : Run) (y : ℕ) : Type 0 where
   pub small : y < 4096
   pub fresh : (i j : ℕ) → i ≤ r .steps → j < i → gone (beside r y) i ≡ gone r j → ⊥
 
--- row r of the bytes, with the rows that begin at y and z; its cells begin `base` further on
-pub record Rows (cells bytes : List ℕ) (r : Run) (base y z : ℕ) : Type 0 where
+-- row r of the bytes, with the rows that begin at y and z
+pub record Rows (cells bytes : List ℕ) (r : Run) (y z : ℕ) : Type 0 where
   pub on : OnAxis r (length bytes)
   pub small : OnAxis r 4096
-  pub celled : (a : ℕ) → a ≤ r .steps → base + gone r a < length cells
+  pub celled : (a : ℕ) → a ≤ r .steps → gone r a < length cells
   pub y-row : Beside bytes r y
   pub z-row : Beside bytes r z
 
@@ -102,9 +102,9 @@ abbrev pub leading : List ℕ → Run → ℕ → ℕ → ℕ
 leading bytes r from a = cond (ltb from a) (getD bytes (gone r (a - 1)) 0) from
 
 -- row r done from place `from` up to n
-pub record Row (cells old new : List ℕ) (r : Run) (base y z from n : ℕ) : Type 0 where
+pub record Row (cells old new : List ℕ) (r : Run) (y z from n : ℕ) : Type 0 where
   pub done : (a : ℕ) → from ≤ a → a < n → getD new (gone r a) 0
-      ≡ joined (mayPass (getD cells (base + gone r a) 0)) (getD old (gone (beside r y) a) 0) (getD old (gone (beside r z) a) 0) (leading new r from a)
+      ≡ joined (mayPass (getD cells (gone r a) 0)) (getD old (gone (beside r y) a) 0) (getD old (gone (beside r z) a) 0) (leading new r from a)
   pub kept : (i : ℕ) → ((a : ℕ) → from ≤ a → a < n → i ≡ gone r a → ⊥) → getD new i 0 ≡ getD old i 0
   pub size : length new ≡ length old
 
@@ -114,22 +114,22 @@ pub record Room (S : Sizes) (g : Between) (bytes : List ℕ) : Type 0 where
   pub held : Held S g
   pub fits : (t : Place) → Within g t → number S (reach g t) < length bytes
 
-pub record Laid (S : Sizes) (cells bytes : List ℕ) (g : Between) (base k behind : ℕ) : Type 0 where
+pub record Laid (S : Sizes) (cells bytes : List ℕ) (g : Between) (k behind : ℕ) : Type 0 where
   pub room : Room S g bytes
   pub here : k ≤ g .z .steps
   pub back : behind ≤ g .z .steps
-  pub celled : (a b : ℕ) → a ≤ g .x .steps → b ≤ g .y .steps → base + spot S g a b k < length cells
+  pub celled : (a b : ℕ) → a ≤ g .x .steps → b ≤ g .y .steps → spot S g a b k < length cells
 
 -- `prev` is what is seen in the layer before, `this` what is seen in layer k; the very first row starts after the corner
-pub record Wave (S : Sizes) (cells old : List ℕ) (g : Between) (base k behind first : ℕ) (prev this : ℕ → ℕ → Bool) : Type 0 where
+pub record Wave (S : Sizes) (cells old : List ℕ) (g : Between) (k behind first : ℕ) (prev this : ℕ → ℕ → Bool) : Type 0 where
   pub before : (a b : ℕ) → a ≤ g .x .steps → b ≤ g .y .steps → getD old (spot S g a b behind) 0 ≡ bit (prev a b)
   pub corner : first ≡ 1 → (getD old (spot S g 0 0 k) 0 ≡ 1) × (this 0 0 ≡ true)
   pub later : (a b : ℕ) → a ≤ g .x .steps → b ≤ g .y .steps → (first ≡ 1 → a + b ≡ 0 → ⊥) → this a b
-      ≡ mayPass (getD cells (base + spot S g a b k) 0) && ((ltb 0 a && this (a - 1) b) || (ltb 0 b && this a (b - 1)) || prev a b)
+      ≡ mayPass (getD cells (spot S g a b k) 0) && ((ltb 0 a && this (a - 1) b) || (ltb 0 b && this a (b - 1)) || prev a b)
 
 -- the first n rows of layer k
-pub record Layer (S : Sizes) (cells old new : List ℕ) (g : Between) (base k behind first n : ℕ) : Type 0 where
-  pub at : (prev this : ℕ → ℕ → Bool) → Wave S cells old g base k behind first prev this
+pub record Layer (S : Sizes) (cells old new : List ℕ) (g : Between) (k behind first n : ℕ) : Type 0 where
+  pub at : (prev this : ℕ → ℕ → Bool) → Wave S cells old g k behind first prev this
       → (a b : ℕ) → a ≤ g .x .steps → b < n → b ≤ g .y .steps → getD new (spot S g a b k) 0 ≡ bit (this a b)
   pub kept : (i : ℕ) → ((a b : ℕ) → a ≤ g .x .steps → b < n → b ≤ g .y .steps → i ≡ spot S g a b k → ⊥) → getD new i 0 ≡ getD old i 0
   pub size : length new ≡ length old

@@ -18,11 +18,11 @@ fn join(cell: u8, y: u8, z: u8, x: u8) -> u8
     (may_pass(cell) as u8) & (y | z | x)
 }
 
-// Row r of the bytes, from place `from` on, whose cells begin `base` further on. The rows before it on Y and Z begin at y and z.
+// Row r of the bytes, from place `from` on. The rows before it on Y and Z begin at y and z.
 // The corner, where the very first row begins, is seen by itself: that row starts after it.
-fn row(cells: &[u8], base: usize, r: Run, y: usize, z: usize, from: usize, bytes: &mut [u8])
-    requires { ⌜ Rows (now cells) (now bytes) r base y z × (from ≤ 1) ⌝ }
-    ensures { λ _. ⌜ Row (now (cells .entry)) (now (bytes .entry)) (now (bytes .exit)) r base y z from (r .steps + 1) ⌝ }
+fn row(cells: &[u8], r: Run, y: usize, z: usize, from: usize, bytes: &mut [u8])
+    requires { ⌜ Rows (now cells) (now bytes) r y z × (from ≤ 1) ⌝ }
+    ensures { λ _. ⌜ Row (now (cells .entry)) (now (bytes .entry)) (now (bytes .exit)) r y z from (r .steps + 1) ⌝ }
 {
     let n = r.steps + 1;
     let start = r.from;
@@ -30,12 +30,7 @@ fn row(cells: &[u8], base: usize, r: Run, y: usize, z: usize, from: usize, bytes
     let mut a = from;
     while a < n {
         let k = r.at(a);
-        last = join(
-            cells[base + k],
-            bytes[k + y - start],
-            bytes[k + z - start],
-            last,
-        );
+        last = join(cells[k], bytes[k + y - start], bytes[k + z - start], last);
         bytes[k] = last;
         a += 1;
     }
@@ -45,15 +40,14 @@ fn row(cells: &[u8], base: usize, r: Run, y: usize, z: usize, from: usize, bytes
 pub fn sweep_layer(
     s: Sizes,
     cells: &[u8],
-    base: usize,
     g: Between,
     k: usize,
     behind: usize,
     first: usize,
     bytes: &mut [u8],
 )
-    requires { ⌜ Laid s (now cells) (now bytes) g base k behind × (first ≤ 1) ⌝ }
-    ensures { λ _. ⌜ Layer s (now (cells .entry)) (now (bytes .entry)) (now (bytes .exit)) g base k behind first (g .y .steps + 1) ⌝ }
+    requires { ⌜ Laid s (now cells) (now bytes) g k behind × (first ≤ 1) ⌝ }
+    ensures { λ _. ⌜ Layer s (now (cells .entry)) (now (bytes .entry)) (now (bytes .exit)) g k behind first (g .y .steps + 1) ⌝ }
 {
     let n = g.y.steps + 1;
     let mut y = g.node(s, 0, 0, behind);
@@ -61,7 +55,7 @@ pub fn sweep_layer(
     let mut b = 0;
     while b < n {
         let r = g.row(s, b, k);
-        row(cells, base, r, y, g.node(s, 0, b, behind), from, bytes);
+        row(cells, r, y, g.node(s, 0, b, behind), from, bytes);
         y = r.from;
         from = 0;
         b += 1;

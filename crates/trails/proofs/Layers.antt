@@ -33,7 +33,7 @@ module _ (m : Map) (g : Between) (r : Ready (m .sizes) (m .cells) g) where
   room-of bytes l = record { sized = r .sized; held = r .held; fits = λ t w. omega (arith, node-lt t w) }
 
   pub spread-laid : (c behind : ℕ) (bytes : List ℕ) → c ≤ g .z .steps → behind ≡ c - 1 → nodes (m .sizes) ≤ length bytes
-      → Laid (m .sizes) (m .cells) bytes g 0 c behind
+      → Laid (m .sizes) (m .cells) bytes g c behind
   spread-laid c behind bytes hc e l = record {
     room = room-of bytes l;
     here = hc;
@@ -43,13 +43,13 @@ module _ (m : Map) (g : Between) (r : Ready (m .sizes) (m .cells) g) where
 
   module _ (old : List ℕ) (seeds : (a b : ℕ) → a ≤ g .x .steps → b ≤ g .y .steps → getD old (spot (m .sizes) g a b 0) 0 ≡ bit (eqb a 0 && eqb b 0)) where
     pub spread-more : (mid new : List ℕ) (c behind first : ℕ) → c ≤ g .z .steps → behind ≡ c - 1 → first ≡ bit (eqb c 0) → Spread m g c old mid
-        → Layer (m .sizes) (m .cells) mid new g 0 c behind first (g .y .steps + 1) → Spread m g (c + 1) old new
+        → Layer (m .sizes) (m .cells) mid new g c behind first (g .y .steps + 1) → Spread m g (c + 1) old new
     spread-more mid new c behind first hc e f P L = record {
       at = λ seen Q t w l. elim (eq-or-lt-of-le (le-of l)) [
         | inl q ↦
             subst (λ (u : Place). getD new (number (m .sizes) (reach g u)) 0 ≡ bit (seen u)) (sym (place-eq t (place (t .x) (t .y) c) refl refl q))
             (L .at (prior seen c) (λ a b. seen (place a b c))
-            (wave m g seen Q c hc g refl refl 0 c behind first mid f (λ z. omega arith) (λ a b. omega arith) (before seen Q c behind hc e P))
+            (wave m g seen Q c hc behind first mid f (λ z. omega arith) (before seen Q c behind hc e P))
             (t .x) (t .y) (w .x-le) (omega (arith, w .y-le)) (w .y-le))
         | inr k ↦ L .kept (number (m .sizes) (reach g t))
             (λ a b la lb hb q. omega (arith, spot-same (m .sizes) g (r .held) (t .x) (t .y) (t .z) a b c w (record { x-le = la; y-le = hb; z-le = hc }) q))

@@ -32,7 +32,7 @@ pub(crate) fn spread(s: Sizes, cells: &[u8], g: Between, bytes: &mut [u8]) -> Wa
     let mut first = 1;
     let mut c = 0;
     while c < n {
-        sweep_layer(s, cells, 0, g, c, behind, first, bytes);
+        sweep_layer(s, cells, g, c, behind, first, bytes);
         behind = c;
         first = 0;
         c += 1;

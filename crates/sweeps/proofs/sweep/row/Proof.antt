@@ -28,16 +28,16 @@ joined-by : (cells bytes : List ℕ) (k k′ i i′ j j′ x x′ v : ℕ) → k
 joined-by cells bytes k k′ i i′ j j′ x x′ v e f g h q = rw (← e, ← f, ← g, ← h) q
 
 abbrev Inv-loop : tie.InvT-loop
-Inv-loop cells base r y z from bytes₀ n start last₀ a₀ bytes last a =
-    (from ≤ a) × (a ≤ n) × (last ≡ leading bytes r from a) × Row cells bytes₀ bytes r base y z from a
+Inv-loop cells r y z from bytes₀ n start last₀ a₀ bytes last a =
+    (from ≤ a) × (a ≤ n) × (last ≡ leading bytes r from a) × Row cells bytes₀ bytes r y z from a
 
 abbrev μ-loop : tie.MeasureT-loop
-μ-loop cells base r y z from bytes₀ n start last₀ a₀ bytes last a = n - a
+μ-loop cells r y z from bytes₀ n start last₀ a₀ bytes last a = n - a
 
 loop-holds : tie.Need-loop-holds Inv-loop μ-loop
 loop-holds c =
     let a = c .before .before .before .args in
-    (omega arith, omega arith, leading-first (now (a .bytes)) (a .r) (a .from), row-none _ _ _ _ _ _ (a .from))
+    (omega arith, omega arith, leading-first (now (a .bytes)) (a .r) (a .from), row-none _ _ _ _ _ (a .from))
 
 at-requires : tie.Need-at-requires Inv-loop μ-loop
 at-requires c κs = let s = c .before .before .before .before .before in (s .pre .0 .small, omega arith)
@@ -45,7 +45,7 @@ at-requires c κs = let s = c .before .before .before .before .before in (s .pre
 -- the byte itself, and those beside it
 here : (c : tie.After-at Inv-loop μ-loop) →
     let s = c .before .before .before .before .before .before in
-    (s .args .base + c .at .result < length (now (s .args .cells))) × (c .at .result < length (c .before .before .loop .bytes)) × (c .at .result < 4096)
+    (c .at .result < length (now (s .args .cells))) × (c .at .result < length (c .before .before .loop .bytes)) × (c .at .result < 4096)
 here c =
     let s = c .before .before .before .before .before .before in
     let l = c .before .before .loop in
@@ -64,8 +64,8 @@ near c y b =
     let l = c .before .before .loop in
     side (s .args .r) (l .a) (c .at .result) y 4096 (now (s .args .bytes)) (l .bytes) (c .at .ensures) (omega arith) (s .pre .0 .small) b (l .inv .3 .size)
 
-add-join-2 : tie.Need-add-join-2 Inv-loop μ-loop
-add-join-2 c = omega (arith, here (c .before), c .before .before .before .before .before .before .before .pre .0 .y-row .small)
+add-join : tie.Need-add-join Inv-loop μ-loop
+add-join c = omega (arith, here (c .before), c .before .before .before .before .before .before .before .pre .0 .y-row .small)
 
 sub-join : tie.Need-sub-join Inv-loop μ-loop
 sub-join c = near (c .before) _ (c .before .before .before .before .before .before .before .pre .0 .y-row) .0
@@ -73,8 +73,8 @@ sub-join c = near (c .before) _ (c .before .before .before .before .before .befo
 slice-read-join : tie.Need-slice-read-join Inv-loop μ-loop
 slice-read-join c = near (c .before .before) _ (c .before .before .before .before .before .before .before .before .pre .0 .y-row) .2
 
-add-join-3 : tie.Need-add-join-3 Inv-loop μ-loop
-add-join-3 c = omega (arith, here (c .before .before), c .before .before .before .before .before .before .before .before .pre .0 .z-row .small)
+add-join-2 : tie.Need-add-join-2 Inv-loop μ-loop
+add-join-2 c = omega (arith, here (c .before .before), c .before .before .before .before .before .before .before .before .pre .0 .z-row .small)
 
 sub-join-2 : tie.Need-sub-join-2 Inv-loop μ-loop
 sub-join-2 c = near (c .before .before) _ (c .before .before .before .before .before .before .before .before .pre .0 .z-row) .0
@@ -95,15 +95,15 @@ loop-again c =
     let v = c .join .result in
     let R = l .inv .3 in
     let k : gone (a .r) (l .a) < length (l .bytes) = rw (at .at .ensures) at (here at .1) in
-    let e : v ≡ joined (mayPass (getD (now (a .cells)) (a .base + gone (a .r) (l .a)) 0)) (getD (l .bytes) (gone (beside (a .r) (a .y)) (l .a)) 0)
+    let e : v ≡ joined (mayPass (getD (now (a .cells)) (gone (a .r) (l .a)) 0)) (getD (l .bytes) (gone (beside (a .r) (a .y)) (l .a)) 0)
     (getD (l .bytes) (gone (beside (a .r) (a .z)) (l .a)) 0) (leading (l .bytes) (a .r) (a .from) (l .a))
     = joined-by (now (a .cells)) (l .bytes) _ _ _ _ _ _ _ _ v (rw (at .at .ensures)) (near at (a .y) (B .y-row) .1) (near at (a .z) (B .z-row) .1) (l .inv .2) (c .join .ensures) in
     let h : l .a ≤ a .r .steps = omega arith in
     rw (at .at .ensures) (
       omega arith,
       omega arith,
-      leading-next (now (a .cells)) (now (a .bytes)) (l .bytes) (a .r) (a .base) (a .y) (a .z) (a .from) (l .a) R (l .inv .0) h B v k,
-      row-more (now (a .cells)) (now (a .bytes)) (l .bytes) (a .r) (a .base) (a .y) (a .z) (a .from) (l .a) R (l .inv .0) h B v k e,
+      leading-next (now (a .cells)) (now (a .bytes)) (l .bytes) (a .r) (a .y) (a .z) (a .from) (l .a) R (l .inv .0) h B v k,
+      row-more (now (a .cells)) (now (a .bytes)) (l .bytes) (a .r) (a .y) (a .z) (a .from) (l .a) R (l .inv .0) h B v k e,
     )
 
 returns : tie.Need-returns Inv-loop μ-loop
@@ -111,11 +111,11 @@ returns c =
     let l = c .before .loop in
     let a = c .before .before .before .before .before .args in
     let e : l .a ≡ a .r .steps + 1 = omega arith in
-    subst (λ (n : ℕ). Row (now (a .cells)) (now (a .bytes)) (l .bytes) (a .r) (a .base) (a .y) (a .z) (a .from) n) e (l .inv .3)
+    subst (λ (n : ℕ). Row (now (a .cells)) (now (a .bytes)) (l .bytes) (a .r) (a .y) (a .z) (a .from) n) e (l .inv .3)
 
 pub row-spec : {M : Type 1} → statement M
 row-spec =
     tie.close (tie.spec Inv-loop μ-loop (λ c. let s = c .before .before .before in omega (arith, steps-lt (s .args .r) 4096 (s .pre .0 .small)))
-    (λ c. search needs) loop-holds at-requires (λ c. omega (arith, here c)) (λ c. here (c .before) .0) add-join-2 sub-join slice-read-join add-join-3
+    (λ c. search needs) loop-holds at-requires (λ c. here (c .before) .0) add-join sub-join slice-read-join add-join-2
     sub-join-2 slice-read-join-2 (λ c κs. search needs) (λ c. here (c .before .before .before .before) .1) add-a (λ c. omega arith) loop-again
     (λ c. c .before .loop .inv .3 .size) returns)

@@ -73,7 +73,7 @@ loop-again c =
       sym (ap bit (ne-eqb (l .c + 1) 0 (λ e. omega arith))),
       spread-more (mapOf (a .s) (now (a .cells))) (a .g) (s .pre .0) (set (now (a .bytes)) (n .result) 1)
           (spread-seeds (mapOf (a .s) (now (a .cells))) (a .g) (s .pre .0) (now (a .bytes)) (n .result) (n .ensures .0) (s .pre .1) (s .pre .2))
-          (l .bytes) (w .last .1 .1 .1 .1 .1 .1 .1 .0) (l .c) (l .behind) (l .first) (omega (arith, t)) (l .inv .1) (l .inv .2) (l .inv .3) (w .ensures),
+          (l .bytes) (w .last .1 .1 .1 .1 .1 .1 .0) (l .c) (l .behind) (l .first) (omega (arith, t)) (l .inv .1) (l .inv .2) (l .inv .3) (w .ensures),
     )
 
 -- every layer is done
