@@ -25,9 +25,9 @@ along may y z start (suc a) = may (suc a) && (along may y z start a || y (suc a)
 less : (n : ℕ) → suc n - 1 ≡ n
 less n = omega arith
 
-module _ (S : Sizes) (cells old : List ℕ) (g : Between) (base k behind first : ℕ) where
+module _ (S : Sizes) (cells old : List ℕ) (g : Between) (k behind first : ℕ) where
   abbrev may : ℕ → ℕ → Bool
-  may b a = mayPass (getD cells (base + spot S g a b k) 0)
+  may b a = mayPass (getD cells (spot S g a b k) 0)
 
   abbrev prev : ℕ → ℕ → Bool
   prev a b = one (getD old (spot S g a b behind) 0)
@@ -48,7 +48,7 @@ module _ (S : Sizes) (cells old : List ℕ) (g : Between) (base k behind first :
   entered (suc a) (suc b) h = rw (lt-ltb 0 (suc a) (omega arith), lt-ltb 0 (suc b) (omega arith), less a, less b)
 
   seen : ((a b : ℕ) → a ≤ g .x .steps → b ≤ g .y .steps → getD old (spot S g a b behind) 0 ≤ 1) → (first ≡ 1 → getD old (spot S g 0 0 k) 0 ≡ 1)
-      → Wave S cells old g base k behind first prev this
+      → Wave S cells old g k behind first prev this
   seen bits corner =
       record {
         before = λ a b la lb. bit-of (getD old (spot S g a b behind) 0) (bits a b la lb);
@@ -57,7 +57,7 @@ module _ (S : Sizes) (cells old : List ℕ) (g : Between) (base k behind first :
       }
 
   pub layer-once : ((a b : ℕ) → a ≤ g .x .steps → b ≤ g .y .steps → getD old (spot S g a b behind) 0 ≤ 1) → (first ≡ 1 → getD old (spot S g 0 0 k) 0 ≡ 1)
-      → (n : ℕ) (l m : List ℕ) → Layer S cells old l g base k behind first n → Layer S cells old m g base k behind first n → l ≡ m
+      → (n : ℕ) (l m : List ℕ) → Layer S cells old l g k behind first n → Layer S cells old m g k behind first n → l ≡ m
   layer-once bits corner n l m A B = ext-getD 0 l m (A .size ∙ sym (B .size)) λ i _. elim (tried (inside i)) [
     | inl t ↦
         let (a, la, u) = T-any (g .x .steps + 1) (in-column i) .0 t in
@@ -69,7 +69,7 @@ module _ (S : Sizes) (cells old : List ℕ) (g : Between) (base k behind first :
     | inr t ↦ A .kept i (apart i t) ∙ sym (B .kept i (apart i t))
   ]
     where
-      W : Wave S cells old g base k behind first prev this
+      W : Wave S cells old g k behind first prev this
       W = seen bits corner
 
       -- i stands in the layer
