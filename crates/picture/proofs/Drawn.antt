@@ -19,10 +19,9 @@ use Rattle.mesh.proofs.Tables.{length-table, getD-table}
 use Rattle.paths.specs.Offered.{reached}
 use Rattle.paths.specs.Entries.{checkEnds, reachedCheck, reachedWritten, reachedOut}
 use Rattle.paths.proofs.Reached.{reached-length}
-use Rattle.sweeps.specs.Box.{largest, between, far}
-use Rattle.sweeps.specs.Sweep.{Ready}
-use Rattle.sweeps.specs.declared.Between.{Between}
-use Rattle.sweeps.proofs.Box.{far-in}
+use Rattle.rows.specs.Box.{largest, between, far, Ready}
+use Rattle.rows.specs.declared.Between.{Between}
+use Rattle.rows.proofs.Box.{far-in}
 use Rattle.routes.proofs.Ends.{ends-granted}
 use Rattle.text.specs.Text.{pieces}
 use Rattle.picture.specs.Picture.{symbolOf, symbolIn, symbols, layerText, endsText, picture}

@@ -11,9 +11,9 @@ use Rattle.mesh.specs.Cells.{Map, mayPass}
 use Rattle.mesh.specs.declared.Sizes.{Sizes}
 use Rattle.mesh.specs.declared.Place.{Place}
 use Rattle.paths.specs.Offered.{reached}
-use Rattle.sweeps.specs.Box.{between, gone, rowRun}
-use Rattle.sweeps.specs.declared.Run.{Run}
-use Rattle.sweeps.specs.declared.Between.{Between}
+use Rattle.rows.specs.Box.{between, gone, rowRun}
+use Rattle.rows.specs.declared.Run.{Run}
+use Rattle.rows.specs.declared.Between.{Between}
 use Rattle.text.specs.Text.{ascii, told, pieces}
 
 -- the symbol of node k: `S` the start s, `E` the end e, `o` reached, `.` not reached, `#` not usable

@@ -2,8 +2,8 @@
 use crate::ends::say_ends;
 use crate::symbols::draw;
 use mesh::Sizes;
-use sweeps::Between;
-use sweeps::Run;
+use rows::Between;
+use rows::Run;
 use sweeps::boxes::between;
 use text::say;
 use text::tell;
@@ -13,8 +13,7 @@ ghost use lib.ListN.{length};
 ghost use Rattle.mesh.specs.Cells.{mapOf};
 ghost use Rattle.mesh.specs.declared.Answer.the-variants.{Done};
 ghost use Rattle.paths.specs.Entries.{checkEnds};
-ghost use Rattle.sweeps.specs.Box.{OnAxis};
-ghost use Rattle.sweeps.specs.Sweep.{Ready};
+ghost use Rattle.rows.specs.Box.{OnAxis, Ready};
 ghost use Rattle.text.specs.Text.{pieces, Said};
 ghost use Rattle.picture.specs.Picture.{toldWide, symbolAt, columnText, rowText, rowIn, layerHead, layerText, picture};
 

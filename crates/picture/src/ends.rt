@@ -1,7 +1,7 @@
 // The ends of a picture, and the directions towards the end.
 use mesh::Place;
-use sweeps::Between;
-use sweeps::Run;
+use rows::Between;
+use rows::Run;
 use text::say;
 use text::tell;
 ghost use Prim.Native.Nat.{_+_, _≤_};

@@ -2,3 +2,5 @@ pub mod Bits
 pub mod Carries
 pub mod Eight
 pub mod Packs
+pub mod Box
+pub mod Faulty

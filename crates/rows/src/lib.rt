@@ -1,9 +1,25 @@
 // A row of nodes as one number: bit k is that of the node k steps on.
+pub mod boxes;
+pub mod layer;
 pub mod pack;
 
 ghost use mathlib.Core.Path.{_≡_};
 ghost use Prim.Native.Nat.{ℕ, _+_, _^_, _≤_};
 ghost use Rattle.rows.specs.Row.{bitAt, swept};
+
+// One axis of a box of nodes: so many steps from a coordinate, down or up.
+pub struct Run {
+    pub from: usize,
+    pub steps: usize,
+    pub down: bool,
+}
+
+// The nodes between two places, from the first towards the second.
+pub struct Between {
+    pub x: Run,
+    pub y: Run,
+    pub z: Run,
+}
 
 // The sweep of a row: the carries of one addition. No bit is set where none of `pass` is.
 pub fn sweep_row(pass: u16, from: u16, link: u16) -> u16

@@ -20,11 +20,11 @@ use Rattle.paths.specs.Offered.{offers}
 use Rattle.paths.proofs.Differences.{at-eq, preferred-along, preferred-next, same-iff}
 use Rattle.paths.proofs.Paths.{mayHop-iff, begins-read, leads-is}
 use Rattle.paths.proofs.Reached.{start-reached}
-use Rattle.sweeps.specs.Box.{between, reach, Within}
+use Rattle.rows.specs.Box.{between, reach, Within}
 use Rattle.sweeps.specs.Sweep.{entry, Seen}
-use Rattle.sweeps.proofs.Box.{held, reach-in}
-use Rattle.sweeps.proofs.Runs.{runOn, origin, within-on, within-put, reach-first, reach-eq, lies-back, lies-back-not, put-back}
-use Rattle.sweeps.specs.declared.Between.{Between}
+use Rattle.rows.proofs.Box.{reach-in}
+use Rattle.sweeps.proofs.Runs.{held, runOn, origin, within-on, within-put, reach-first, reach-eq, lies-back, lies-back-not, put-back}
+use Rattle.rows.specs.declared.Between.{Between}
 
 -- a step that leads somewhere may be taken: all that is asked of `linked` here
 pub linked-to : (m : Map) (p q : Place) (j : ℕ) → next (m .sizes) p j ≡ At q → T (linked m p j)

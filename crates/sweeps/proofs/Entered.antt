@@ -12,10 +12,10 @@ use Rattle.mesh.specs.Mesh.{X, Y, Z, place, number}
 use Rattle.mesh.proofs.Bits.{bit-le}
 use Rattle.mesh.specs.declared.Sizes.{Sizes}
 use Rattle.mesh.specs.declared.Place.{Place}
-use Rattle.sweeps.specs.Box.{reach}
-use Rattle.sweeps.specs.Sweep.{wayIn, waysOf, spot, entered}
+use Rattle.rows.specs.Box.{reach, spot}
+use Rattle.sweeps.specs.Sweep.{wayIn, waysOf, entered}
 use Rattle.sweeps.specs.declared.Ways.{Ways}
-use Rattle.sweeps.specs.declared.Between.{Between}
+use Rattle.rows.specs.declared.Between.{Between}
 
 module _ (S : Sizes) (g : Between) (bytes : List ℕ) (t : Place) (left x y z : ℕ) where
   -- the byte one step nearer says whether there is a step left and what is seen there

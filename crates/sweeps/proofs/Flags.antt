@@ -15,11 +15,11 @@ use Rattle.mesh.specs.declared.Place.{Place}
 use Rattle.paths.specs.Differences.{difference, wanted}
 use Rattle.paths.specs.Offered.{offers, offered}
 use Rattle.paths.proofs.Differences.{Sign, level, above, below, sign, size-is}
-use Rattle.sweeps.specs.Box.{between, far, Within}
+use Rattle.rows.specs.Box.{between, far, Within}
 use Rattle.sweeps.specs.Sweep.{waysOf, flagOf}
 use Rattle.sweeps.proofs.Runs.{runOn, reach-far}
 use Rattle.sweeps.proofs.Backward.{ahead, offers-back, offers-on}
-use Rattle.sweeps.specs.declared.Between.{Between}
+use Rattle.rows.specs.declared.Between.{Between}
 
 -- of two directions of an axis, one from c to b and one away, the bit of the first
 flag-is : (up c b : ℕ) (f : Bool → Bool) (o : Bool) → f (not (ltb c b)) ≡ o → f (ltb c b) ≡ false → (c ≡ b → o ≡ false)

@@ -19,12 +19,12 @@ use Rattle.paths.specs.Paths.{mayEnter, Leads, stay, hop, leads}
 use Rattle.paths.proofs.Differences.{at-eq, lies, on-put, preferred-along, preferred-read, preferred-next, same-iff}
 use Rattle.paths.proofs.Paths.{mayHop-iff, leads-iff}
 use Rattle.paths.proofs.Reached.{start-reached, reached-on, reached-iff}
-use Rattle.sweeps.specs.Box.{between, reach, far, Within}
+use Rattle.rows.specs.Box.{between, reach, far, Within}
 use Rattle.sweeps.specs.Sweep.{entry, Seen}
-use Rattle.sweeps.proofs.Box.{held, reach-in}
-use Rattle.sweeps.proofs.Runs.{runOn, origin, put-put, within-on, within-put, reach-first, reach-far, reach-eq, lies-on, lies-on-not, put-on}
+use Rattle.rows.proofs.Box.{reach-in}
+use Rattle.sweeps.proofs.Runs.{held, runOn, origin, put-put, within-on, within-put, reach-first, reach-far, reach-eq, lies-on, lies-on-not, put-on}
 use Rattle.sweeps.proofs.Backward.{linked-to}
-use Rattle.sweeps.specs.declared.Between.{Between}
+use Rattle.rows.specs.declared.Between.{Between}
 
 module _ (m : Map) (s e : Place) (s-in : Inside (m .sizes) s) (e-in : Inside (m .sizes) e) where
   abbrev g : Between

@@ -13,10 +13,10 @@ use Rattle.mesh.specs.Mesh.{place}
 use Rattle.mesh.specs.Cells.{Map, cellAt, mayPass}
 use Rattle.mesh.specs.declared.Sizes.{Sizes}
 use Rattle.mesh.specs.declared.Place.{Place}
-use Rattle.sweeps.specs.Box.{reach, Held}
-use Rattle.sweeps.specs.Sweep.{Seen, spot, prior, Wave}
-use Rattle.sweeps.proofs.Rows.{spot-same}
-use Rattle.sweeps.specs.declared.Between.{Between}
+use Rattle.rows.specs.Box.{reach, Held, spot}
+use Rattle.sweeps.specs.Sweep.{Seen, prior, Wave}
+use Rattle.rows.proofs.Box.{spot-same}
+use Rattle.rows.specs.declared.Between.{Between}
 
 -- ---- before the first layer
 

@@ -1,4 +1,3 @@
-pub mod Box
 pub mod Runs
 pub mod Rows
 pub mod Once

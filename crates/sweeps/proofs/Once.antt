@@ -14,8 +14,9 @@ use Rattle.mesh.specs.Cells.{mayPass}
 use Rattle.mesh.proofs.Bits.{bit-of}
 use Rattle.mesh.proofs.Tests.{T-and, T-any, T-eq, T-lt, T-no, tried}
 use Rattle.mesh.specs.declared.Sizes.{Sizes}
-use Rattle.sweeps.specs.Sweep.{spot, Wave, Layer}
-use Rattle.sweeps.specs.declared.Between.{Between}
+use Rattle.rows.specs.Box.{spot}
+use Rattle.sweeps.specs.Sweep.{Wave, Layer}
+use Rattle.rows.specs.declared.Between.{Between}
 
 -- a row from its first node on: each may be passed and is entered from the one before it, or from the rows before on Y and Z
 abbrev along : (ℕ → Bool) → (ℕ → Bool) → (ℕ → Bool) → Bool → ℕ → Bool

@@ -11,57 +11,31 @@ use lib.ListN.{length, getD, set, replicate, length-set, getD-replicate}
 use lib.Seq.{getD-set-same, getD-set-other}
 use lib.Bits.{bitOr}
 use lib.Dec.{ltb, eqb}
-use borrow.Author.Tests.{lt-ltb, ltb-true, ltb-false, ne-eqb, eq-eqb, eqb-true}
+use borrow.Author.Tests.{lt-ltb, ltb-true, ne-eqb, eq-eqb, eqb-true}
 use Rattle.mesh.specs.Tools.{bit}
-use Rattle.mesh.specs.Mesh.{place, number}
-use Rattle.mesh.specs.Cells.{Map, cellAt, faultyCell, badCell, mayPass}
-use Rattle.mesh.proofs.Numbers.{number-lt}
-use Rattle.mesh.specs.declared.Sizes.{Sizes}
+use Rattle.mesh.specs.Mesh.{place}
+use Rattle.mesh.specs.Cells.{Map, cellAt, faulty, mayPass}
 use Rattle.mesh.specs.declared.Place.{Place}
-use Rattle.rows.specs.Row.{bitAt, swept, packed, says, Span}
+use Rattle.rows.specs.Row.{bitAt, swept, packed}
 use Rattle.rows.proofs.Bits.{at-or}
 use Rattle.rows.proofs.Packs.{at-packed, at-none, packed-not}
-use Rattle.sweeps.specs.Box.{reach, far, rowRun, Within, OnAxis}
-use Rattle.sweeps.specs.Sweep.{Seen, Good, Ready, spot, prior, Holds, rowBefore, Over, Layers, seed, seenAt, waysOf}
-use Rattle.sweeps.proofs.Box.{reach-in}
-use Rattle.sweeps.proofs.Rows.{gone-row, row-on}
+use Rattle.rows.specs.Box.{reach, far}
+use Rattle.sweeps.specs.Sweep.{Seen, prior, Holds, rowBefore, Over, Layers, seed, seenAt, waysOf}
 use Rattle.sweeps.proofs.Layers.{next-seen}
 use Rattle.sweeps.specs.declared.Ways.{Ways}
-use Rattle.sweeps.specs.declared.Between.{Between}
+use Rattle.rows.specs.declared.Between.{Between}
 
 -- ---- the cells of a row
 
--- bit 0 of a cell says that the node is faulty
-cell-passes : (S : Sizes) (k c : ℕ) → badCell S k c ≡ false → not (bitAt c 0) ≡ mayPass c
-unfolding bitAt badCell mayPass faultyCell
-cell-passes S k zero e = refl
-cell-passes S k (suc zero) e = refl
-cell-passes S k (suc (suc c)) e = absurd (omega (arith, ltb-false 1 (suc (suc c)) e))
-
-module _ (m : Map) (g : Between) (r : Ready (m .sizes) (m .cells) g) (b c : ℕ) (hb : b ≤ g .y .steps) (hc : c ≤ g .z .steps) where
-  fits : (t : Place) → Within g t → number (m .sizes) (reach g t) < length (m .cells)
-  fits t w = rw (r .whole) (number-lt (m .sizes) (reach g t) (reach-in (m .sizes) g t (r .held) w))
-
-  pub row-span : Span (m .cells) (g .x .down) (spot (m .sizes) g 0 b c) (g .x .steps + 1)
-  row-span =
-      let o : OnAxis (rowRun (m .sizes) g b c) (length (m .cells)) = row-on (m .sizes) g (r .held) (length (m .cells)) b c hb hc fits in
-      record { starts = o .starts; low = λ e. omega (arith, o .low e); high = λ e. omega (arith, o .high e) }
-
-  -- where the faulty ones are taken from all
-  pub row-passes : Good (m .sizes) (m .cells) → (v all : ℕ) → v ≡ packed (says (m .cells) 0 (g .x .down) (spot (m .sizes) g 0 b c)) (g .x .steps + 1) → all + 1 ≡ 2 ^ (g .x .steps + 1)
-      → (v ≤ all) × ((a : ℕ) → a ≤ g .x .steps → bitAt (all - v) a ≡ mayPass (cellAt m (reach g (place a b c))))
-  row-passes good v all ev ea =
-      let f : ℕ → Bool = says (m .cells) 0 (g .x .down) (spot (m .sizes) g 0 b c) in
-      let w : ℕ = g .x .steps + 1 in
-      let q : all - v ≡ packed (λ k. not (f k)) w = omega (arith, packed-not f w) in (
-        omega (arith, packed-not f w),
-        λ a l. ap (λ n. bitAt n a) q ∙ at-packed (λ k. not (f k)) w a ∙ rw (lt-ltb a w (omega arith)) (at a l),
-      )
-    where
-      at : (a : ℕ) → a ≤ g .x .steps → not (says (m .cells) 0 (g .x .down) (spot (m .sizes) g 0 b c) a) ≡ mayPass (cellAt m (reach g (place a b c)))
-      at a l =
-          ap (λ i. not (bitAt (getD (m .cells) i 0) 0)) (gone-row (m .sizes) g (r .held) a b c l)
-          ∙ cell-passes (m .sizes) (spot (m .sizes) g a b c) _ (good _ (fits (place a b c) (record { x-le = l; y-le = hb; z-le = hc })))
+-- where the faulty ones are taken from all
+pub row-passes : (m : Map) (g : Between) (b c v all : ℕ) → v ≡ packed (λ a. faulty m (reach g (place a b c))) (g .x .steps + 1) → all + 1 ≡ 2 ^ (g .x .steps + 1)
+    → (v ≤ all) × ((a : ℕ) → a ≤ g .x .steps → bitAt (all - v) a ≡ mayPass (cellAt m (reach g (place a b c))))
+unfolding mayPass
+row-passes m g b c v all ev ea =
+    let f : ℕ → Bool = λ a. faulty m (reach g (place a b c)) in
+    let w : ℕ = g .x .steps + 1 in
+    let q : all - v ≡ packed (λ a. not (f a)) w = omega (arith, packed-not f w) in
+    (omega (arith, packed-not f w), λ a l. ap (λ n. bitAt n a) q ∙ at-packed (λ a. not (f a)) w a ∙ rw (lt-ltb a w (omega arith)))
 
 -- ---- what a row sees
 

@@ -14,11 +14,12 @@ use Rattle.mesh.specs.Mesh.{place, number}
 use Rattle.mesh.specs.Cells.{mayPass}
 use Rattle.mesh.specs.declared.Sizes.{Sizes}
 use Rattle.mesh.specs.declared.Place.{Place}
-use Rattle.sweeps.specs.Box.{gone, reach, rowRun, Within, OnAxis, Held}
-use Rattle.sweeps.specs.Sweep.{spot, joined, beside, Beside, Rows, leading, Row}
-use Rattle.sweeps.proofs.Box.{gone-same, node-same}
-use Rattle.sweeps.specs.declared.Run.{Run}
-use Rattle.sweeps.specs.declared.Between.{Between}
+use Rattle.rows.specs.Box.{gone, reach, rowRun, Within, OnAxis, Held, spot}
+use Rattle.sweeps.specs.Sweep.{joined, beside, Beside, Rows, leading, Row}
+use Rattle.rows.proofs.Box.{gone-same}
+use Rattle.sweeps.proofs.Runs.{node-same}
+use Rattle.rows.specs.declared.Run.{Run}
+use Rattle.rows.specs.declared.Between.{Between}
 
 -- ---- a row
 
@@ -76,37 +77,3 @@ module _ (cells old new : List ℕ) (r : Run) (y z from a : ℕ) (R : Row cells 
       here : getD (set new (gone r a) v) (gone r a) 0
           ≡ joined (mayPass (getD cells (gone r a) 0)) (getD old (gone (beside r y) a) 0) (getD old (gone (beside r z) a) 0) (leading (set new (gone r a) v) r from a)
       here = getD-set-same new (gone r a) v 0 len ∙ e ∙ rw (beside-kept y (B .y-row), beside-kept z (B .z-row), leading-set v a (omega arith))
-
--- ---- the rows of a box
-
-module _ (S : Sizes) (g : Between) (h : Held S g) where
-  pub gone-row : (a b c : ℕ) → a ≤ g .x .steps → gone (rowRun S g b c) a ≡ spot S g a b c
-  gone-row a b c l = split (g .x .down) refl
-    where
-      rest : ℕ
-      rest = S .w * (gone (g .y) b + S .h * gone (g .z) c)
-
-      split : (d : Bool) → g .x .down ≡ d
-          → cond d (cond d (g .x .from - 0) (g .x .from + 0) + rest - a) (cond d (g .x .from - 0) (g .x .from + 0) + rest + a) ≡ cond d (g .x .from - a) (g .x .from + a) + rest
-      split true e = omega (arith, h .x-on .low e)
-      split false e = omega arith
-
-  -- bytes that stand for different nodes stand apart
-  pub spot-same : (a b c a′ b′ c′ : ℕ) → Within g (place a b c) → Within g (place a′ b′ c′) → spot S g a b c ≡ spot S g a′ b′ c′
-      → (a ≡ a′) × (b ≡ b′) × (c ≡ c′)
-  spot-same a b c a′ b′ c′ w w′ e =
-      let q = node-same S g h (place a b c) (place a′ b′ c′) w w′ e in
-      (ap (λ (t : Place). t .x) q, ap (λ (t : Place). t .y) q, ap (λ (t : Place). t .z) q)
-
-  -- a row stays where its nodes stand
-  pub row-on : (n b c : ℕ) → b ≤ g .y .steps → c ≤ g .z .steps → ((t : Place) → Within g t → number S (reach g t) < n) → OnAxis (rowRun S g b c) n
-  row-on n b c hb hc fits =
-      let at : (a : ℕ) → a ≤ g .x .steps → spot S g a b c < n
-      = λ a l. fits (place a b c) (record { x-le = l; y-le = hb; z-le = hc }) in
-      record {
-        starts = at 0 (omega arith);
-        low = λ e. rw e (omega (arith, h .x-on .low e));
-        high = λ e.
-            let k : gone (rowRun S g b c) (g .x .steps) < n = rw (gone-row (g .x .steps) b c (omega arith)) (at (g .x .steps) (omega arith)) in
-            rw e (rw e at k);
-      }

@@ -16,12 +16,11 @@ use Rattle.mesh.proofs.Bits.{bit-and, bit-or}
 use Rattle.mesh.proofs.Numbers.{number-lt, nodes-le}
 use Rattle.mesh.specs.declared.Sizes.{Sizes}
 use Rattle.mesh.specs.declared.Place.{Place}
-use Rattle.sweeps.specs.Box.{gone, reach, rowRun, Within, Held}
-use Rattle.sweeps.specs.Sweep.{spot, joined, Beside, Rows, leading, Row, Laid, Wave, Layer}
-use Rattle.sweeps.proofs.Box.{reach-in}
-use Rattle.sweeps.proofs.Rows.{gone-row, spot-same, row-on}
-use Rattle.sweeps.specs.declared.Run.{Run}
-use Rattle.sweeps.specs.declared.Between.{Between}
+use Rattle.rows.specs.Box.{gone, reach, rowRun, Within, Held, spot}
+use Rattle.sweeps.specs.Sweep.{joined, Beside, Rows, leading, Row, Laid, Wave, Layer}
+use Rattle.rows.proofs.Box.{reach-in, gone-row, spot-same, row-on}
+use Rattle.rows.specs.declared.Run.{Run}
+use Rattle.rows.specs.declared.Between.{Between}
 
 -- the row before row b of layer k: row 0 has none, and the layer behind stands for it; the very first row starts after the corner
 abbrev pub layerOf : ℕ → ℕ → ℕ → ℕ

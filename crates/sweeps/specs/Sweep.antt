@@ -15,10 +15,10 @@ use Rattle.mesh.specs.declared.Place.{Place}
 use Rattle.rows.specs.Row.{bitAt}
 use Rattle.paths.specs.declared.Wanted.{Wanted}
 use Rattle.paths.specs.declared.Wanted.the-variants.{Way, Level}
-use Rattle.sweeps.specs.Box.{gone, reach, Within, OnAxis, Held}
+use Rattle.rows.specs.Box.{gone, reach, Within, OnAxis, Held, spot, Good, Room}
 use Rattle.sweeps.specs.declared.Ways.{Ways}
-use Rattle.sweeps.specs.declared.Run.{Run}
-use Rattle.sweeps.specs.declared.Between.{Between}
+use Rattle.rows.specs.declared.Run.{Run}
+use Rattle.rows.specs.declared.Between.{Between}
 
 -- ---- what is seen
 
@@ -45,26 +45,12 @@ pub record Seen (m : Map) (g : Between) (seen : Place → Bool) : Type 0 where
 
 -- ---- bytes
 
--- the byte of the node a and b steps away, in layer k: it stands at the node's number
-abbrev pub spot : Sizes → Between → ℕ → ℕ → ℕ → ℕ
-spot S g a b k = number S (reach g (place a b k))
-
 -- the layer before layer c: before the first only the corner is seen
 abbrev pub prior : (Place → Bool) → ℕ → ℕ → ℕ → Bool
 prior seen zero a b = eqb a 0 && eqb b 0
 prior seen (suc c) a b = seen (place a b c)
 
 -- ---- contracts
-
--- each byte is a cell
-abbrev pub Good : Sizes → List ℕ → Type 0
-Good S cells = (k : ℕ) → k < length cells → badCell S k (getD cells k 0) ≡ false
-
--- a byte for each node of a mesh, and a box in it
-pub record Ready (S : Sizes) (cells : List ℕ) (g : Between) : Type 0 where
-  pub sized : InRange S
-  pub whole : length cells ≡ nodes S
-  pub held : Held S g
 
 -- a map that was checked, and the two ends of a route in it
 pub record Ends (S : Sizes) (cells : List ℕ) (p e : Place) : Type 0 where
@@ -108,12 +94,7 @@ pub record Row (cells old new : List ℕ) (r : Run) (y z from n : ℕ) : Type 0 
   pub kept : (i : ℕ) → ((a : ℕ) → from ≤ a → a < n → i ≡ gone r a → ⊥) → getD new i 0 ≡ getD old i 0
   pub size : length new ≡ length old
 
--- bytes with room for a box, and layer k of them, after layer `behind`
-pub record Room (S : Sizes) (g : Between) (bytes : List ℕ) : Type 0 where
-  pub sized : InRange S
-  pub held : Held S g
-  pub fits : (t : Place) → Within g t → number S (reach g t) < length bytes
-
+-- layer k of the bytes, after layer `behind`
 pub record Laid (S : Sizes) (cells bytes : List ℕ) (g : Between) (k behind : ℕ) : Type 0 where
   pub room : Room S g bytes
   pub here : k ≤ g .z .steps

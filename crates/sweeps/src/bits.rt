@@ -1,8 +1,8 @@
 // The sweep by rows: bit a of row b is 1 if the node a and b steps away is seen. Each layer goes over the one before, in sixteen numbers.
-use crate::Between;
 use mesh::Sizes;
+use rows::Between;
 use rows::full;
-use rows::pack::pack_row;
+use rows::layer::faulty_row;
 use rows::sweep_row;
 ghost use mathlib.Core.Path.{_≡_};
 ghost use Prim.Native.Nat.{ℕ, _+_, _≤_, _<_};
@@ -11,17 +11,15 @@ ghost use lib.ListN.{length};
 ghost use Rattle.mesh.specs.Mesh.{place};
 ghost use Rattle.mesh.specs.Cells.{mapOf, cellAt, mayPass};
 ghost use Rattle.rows.specs.Row.{bitAt};
-ghost use Rattle.sweeps.specs.Box.{reach};
-ghost use Rattle.sweeps.specs.Sweep.{Good, Ready, Layers, seed, seenAt};
+ghost use Rattle.rows.specs.Box.{reach, Good, Ready};
+ghost use Rattle.sweeps.specs.Sweep.{Layers, seed, seenAt};
 
 // The nodes of row b of layer c that may be passed.
 fn pass_row(s: Sizes, cells: &[u8], g: Between, b: usize, c: usize) -> u16
     requires { ⌜ Ready s (now cells) g × Good s (now cells) × (b ≤ g .y .steps) × (c ≤ g .z .steps) ⌝ }
     ensures { λ r. ⌜ ((a : ℕ) → a ≤ g .x .steps → bitAt r a ≡ mayPass (cellAt (mapOf s (now (cells .entry))) (reach g (place a b c)))) ⌝ }
 {
-    let x = g.x;
-    let w = x.steps + 1;
-    full(w) - pack_row(cells, 0, g.node(s, 0, b, c), w, x.down)
+    full(g.x.steps + 1) - faulty_row(s, cells, g, b, c)
 }
 
 // Layer c, over the layer before it. The corner is seen by itself, whether or not it may be passed.

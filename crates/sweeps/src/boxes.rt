@@ -1,14 +1,13 @@
-// The nodes between two places, in steps from the first towards the second: all eight ways to run are one case.
-use crate::Between;
-use crate::Run;
+// The box from one place to another.
 use crate::signed::difference;
 use crate::signed::size;
 use mesh::Place;
-use mesh::Sizes;
+use rows::Between;
+use rows::Run;
 ghost use mathlib.Core.Path.{_≡_};
-ghost use Prim.Native.Nat.{_≤_, _<_};
-ghost use Rattle.mesh.specs.Mesh.{InRange, Inside, place, nodes, number};
-ghost use Rattle.sweeps.specs.Box.{largest, run, between, gone, reach, far, rowRun, OnAxis, Held, Within};
+ghost use Prim.Native.Nat.{_<_};
+ghost use Rattle.mesh.specs.Mesh.{Inside};
+ghost use Rattle.rows.specs.Box.{largest, run, between};
 
 // One axis, from one coordinate to another.
 fn run(from: usize, to: usize) -> Run
@@ -32,59 +31,5 @@ pub fn between(u: Place, v: Place) -> Between
         x: run(u.x, v.x),
         y: run(u.y, v.y),
         z: run(u.z, v.z),
-    }
-}
-
-impl Run {
-    // The coordinate, or the node of a row, after i steps.
-    pub fn at(self, i: usize) -> usize
-        requires { ⌜ OnAxis self 4096 × (i ≤ self .steps) ⌝ }
-        ensures { λ r. ⌜ r ≡ gone self i ⌝ }
-    {
-        if self.down {
-            return self.from - i;
-        }
-        self.from + i
-    }
-}
-
-impl Between {
-    // The opposite corner, in steps.
-    pub fn far(self) -> Place
-        ensures { λ r. ⌜ r ≡ far self ⌝ }
-    {
-        Place {
-            x: self.x.steps,
-            y: self.y.steps,
-            z: self.z.steps,
-        }
-    }
-
-    // The nodes of the row after b and c steps.
-    pub fn row(self, s: Sizes, b: usize, c: usize) -> Run
-        requires { ⌜ InRange s × Held s self × Within self (place 0 b c) ⌝ }
-        ensures { λ r. ⌜ r ≡ rowRun s self b c ⌝ }
-    {
-        let x = self.x;
-        Run {
-            from: self.node(s, 0, b, c),
-            steps: x.steps,
-            down: x.down,
-        }
-    }
-
-    // The number of the node after a, b and c steps.
-    pub fn node(self, s: Sizes, a: usize, b: usize, c: usize) -> usize
-        requires { ⌜ InRange s × Held s self × Within self (place a b c) ⌝ }
-        ensures { λ r. ⌜ (r ≡ number s (reach self (place a b c))) × (r < nodes s) ⌝ }
-    {
-        let x = self.x;
-        let y = self.y;
-        let z = self.z;
-        s.number(Place {
-            x: x.at(a),
-            y: y.at(b),
-            z: z.at(c),
-        })
     }
 }

@@ -6,23 +6,9 @@ pub mod offers;
 pub mod signed;
 pub mod sweep;
 
-// One axis of a box of nodes: so many steps from a coordinate, down or up.
-pub struct Run {
-    pub from: usize,
-    pub steps: usize,
-    pub down: bool,
-}
-
 // On each axis, the byte of the node one step nearer to the corner where a sweep began; 0 if there is none.
 pub struct Ways {
     pub x: u8,
     pub y: u8,
     pub z: u8,
-}
-
-// The nodes between two places, from the first towards the second.
-pub struct Between {
-    pub x: Run,
-    pub y: Run,
-    pub z: Run,
 }

@@ -1,5 +1,4 @@
 // The offered set at the start of a route, from a sweep that begins at its end.
-use crate::Between;
 use crate::Ways;
 use crate::bits::over;
 use crate::bits::seeded;
@@ -11,6 +10,7 @@ use crate::signed::way;
 use mesh::Place;
 use mesh::Sizes;
 use paths::Wanted;
+use rows::Between;
 ghost use mathlib.Core.Path.{_≡_};
 ghost use mathlib.Core.Bool.{not, _||_};
 ghost use Prim.Native.Nat.{_+_, _≤_, _<_};
@@ -19,8 +19,8 @@ ghost use lib.Signed.{mag};
 ghost use Rattle.mesh.specs.Cells.{mapOf};
 ghost use Rattle.paths.specs.Differences.{wanted};
 ghost use Rattle.paths.specs.Offered.{offered};
-ghost use Rattle.sweeps.specs.Box.{far};
-ghost use Rattle.sweeps.specs.Sweep.{Good, Ready, Ends, WaysTo, flagOf};
+ghost use Rattle.rows.specs.Box.{far, Good, Ready};
+ghost use Rattle.sweeps.specs.Sweep.{Ends, WaysTo, flagOf};
 
 // The ways into the far corner of a box. The layer before the last is read where the last one goes over it.
 fn ways(s: Sizes, cells: &[u8], g: Between) -> Ways

@@ -7,7 +7,7 @@ ghost use lib.IntN.{natAbs, subℕ};
 ghost use lib.Signed.{mag};
 ghost use Rattle.mesh.specs.Mesh.{Inside};
 ghost use Rattle.paths.specs.Differences.{wanted, hops};
-ghost use Rattle.sweeps.specs.Box.{largest};
+ghost use Rattle.rows.specs.Box.{largest};
 
 // The coordinate `to` less the coordinate `from`.
 pub(crate) fn difference(from: usize, to: usize) -> i32

@@ -1,15 +1,15 @@
 // The sweep with a byte for each node, 1 if it is seen from the box's first corner, else 0. It stands at the node's number.
-use crate::Between;
-use crate::Run;
 use crate::Ways;
 use maps::may_pass;
 use mesh::Place;
 use mesh::Sizes;
+use rows::Between;
+use rows::Run;
 ghost use mathlib.Core.Path.{_≡_};
 ghost use Prim.Native.Nat.{_+_, _≤_, _<_};
 ghost use Rattle.mesh.specs.Cells.{mayPass};
-ghost use Rattle.sweeps.specs.Box.{Within};
-ghost use Rattle.sweeps.specs.Sweep.{joined, entered, waysIn, Rows, Row, Room, Laid, Layer};
+ghost use Rattle.rows.specs.Box.{Within, Room};
+ghost use Rattle.sweeps.specs.Sweep.{joined, entered, waysIn, Rows, Row, Laid, Layer};
 
 // Seen if it may be passed and one of three bytes is 1.
 fn join(cell: u8, y: u8, z: u8, x: u8) -> u8

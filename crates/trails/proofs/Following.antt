@@ -7,10 +7,10 @@ use Rattle.mesh.specs.Tools.{one}
 use Rattle.mesh.specs.Mesh.{X, Y, Z}
 use Rattle.mesh.specs.declared.Sizes.{Sizes}
 use Rattle.mesh.specs.declared.Place.{Place}
-use Rattle.sweeps.specs.Box.{Within}
+use Rattle.rows.specs.Box.{Within}
 use Rattle.sweeps.specs.Sweep.{nearer, waysIn}
 use Rattle.sweeps.specs.declared.Ways.{Ways}
-use Rattle.sweeps.specs.declared.Between.{Between}
+use Rattle.rows.specs.declared.Between.{Between}
 use Rattle.trails.specs.Table.{towards, trail}
 
 pub towards-within : (g : Between) (w : Ways) (t : Place) → Within g t → Within g (towards w t)

@@ -16,13 +16,12 @@ use Rattle.mesh.proofs.Tests.{T-any, T-eq, T-no, tried}
 use Rattle.mesh.proofs.Numbers.{number-lt}
 use Rattle.mesh.specs.declared.Place.{Place}
 use Rattle.paths.proofs.Differences.{place-eq}
-use Rattle.sweeps.specs.Box.{reach, Within}
-use Rattle.sweeps.specs.Sweep.{nearer, waysOf, Seen, spot, prior, Ready, Room, Laid, Layer, waysIn}
-use Rattle.sweeps.proofs.Box.{reach-in}
-use Rattle.sweeps.proofs.Rows.{spot-same}
+use Rattle.rows.specs.Box.{reach, Within, spot, Ready, Room}
+use Rattle.sweeps.specs.Sweep.{nearer, waysOf, Seen, prior, Laid, Layer, waysIn}
+use Rattle.rows.proofs.Box.{reach-in, spot-same}
 use Rattle.sweeps.proofs.Layers.{seeded-at, wave}
 use Rattle.sweeps.proofs.Entered.{entered-is}
-use Rattle.sweeps.specs.declared.Between.{Between}
+use Rattle.rows.specs.declared.Between.{Between}
 use Rattle.trails.specs.Spread.{Blank, Spread}
 
 module _ (m : Map) (g : Between) (r : Ready (m .sizes) (m .cells) g) where

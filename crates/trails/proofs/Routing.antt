@@ -23,7 +23,7 @@ use Rattle.paths.specs.Paths.{leads}
 use Rattle.paths.specs.Offered.{route}
 use Rattle.paths.specs.Entries.{checkEnds, verdictCheck, routeCheck, routeAnswer, routeWritten, routeOut}
 use Rattle.paths.proofs.Offered.{route-length}
-use Rattle.sweeps.specs.Box.{between, reach}
+use Rattle.rows.specs.Box.{between, reach}
 use Rattle.trails.specs.Spread.{Spread}
 use Rattle.trails.specs.Table.{trail, routedAnswer, routedOut}
 use Rattle.trails.proofs.Trails.{route-trail}

@@ -28,13 +28,13 @@ use Rattle.paths.specs.Offered.{reachedAt, reached, reachedCount}
 use Rattle.paths.specs.Entries.{checkEnds, reachedCheck, reachedAnswer, reachedWritten, reachedOut}
 use Rattle.paths.proofs.Differences.{hops-is}
 use Rattle.paths.proofs.Reached.{reached-length, reached-byte}
-use Rattle.sweeps.specs.Box.{between, reach, far, Within}
+use Rattle.rows.specs.Box.{between, reach, far, Within}
 use Rattle.sweeps.specs.Sweep.{entry, waysOf}
-use Rattle.sweeps.proofs.Box.{held, reach-in}
-use Rattle.sweeps.proofs.Runs.{reach-far}
+use Rattle.rows.proofs.Box.{reach-in}
+use Rattle.sweeps.proofs.Runs.{held, reach-far}
 use Rattle.sweeps.proofs.Forward.{behind, boxed, behind-is, from-start, end-entry}
 use Rattle.sweeps.specs.declared.Ways.{Ways}
-use Rattle.sweeps.specs.declared.Between.{Between}
+use Rattle.rows.specs.declared.Between.{Between}
 use Rattle.trails.specs.Spread.{Bits, Spread}
 use Rattle.trails.proofs.Layers.{spread-safe}
 use Rattle.trails.proofs.Trails.{summed, far-zero}

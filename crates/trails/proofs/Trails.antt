@@ -23,12 +23,12 @@ use Rattle.paths.specs.Offered.{offers, lowest, routeWithin, route}
 use Rattle.paths.proofs.Differences.{at-eq, hops-zero, hops-is, same-iff, size-is, place-eq}
 use Rattle.paths.proofs.Paths.{leads-iff, hop-lowers}
 use Rattle.paths.proofs.Offered.{lowest-is, least-one, offers-iff}
-use Rattle.sweeps.specs.Box.{between, reach, far, Within}
+use Rattle.rows.specs.Box.{between, reach, far, Within}
 use Rattle.sweeps.specs.Sweep.{wayIn, entry, waysOf, waysIn}
 use Rattle.sweeps.proofs.Runs.{runOn, origin, reach-first, reach-far}
 use Rattle.sweeps.proofs.Backward.{ahead, node-in, step-back, from-end, leads-entry, offers-back, offers-on}
 use Rattle.sweeps.specs.declared.Ways.{Ways}
-use Rattle.sweeps.specs.declared.Between.{Between}
+use Rattle.rows.specs.declared.Between.{Between}
 use Rattle.trails.specs.Spread.{Spread}
 use Rattle.trails.specs.Table.{towards, nearest, trail}
 use Rattle.trails.proofs.Layers.{ways-in}

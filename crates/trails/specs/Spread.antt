@@ -9,9 +9,9 @@ use Rattle.mesh.specs.Mesh.{nodes, number}
 use Rattle.mesh.specs.Cells.{Map}
 use Rattle.mesh.specs.declared.Sizes.{Sizes}
 use Rattle.mesh.specs.declared.Place.{Place}
-use Rattle.sweeps.specs.Box.{reach, Within}
+use Rattle.rows.specs.Box.{reach, Within}
 use Rattle.sweeps.specs.Sweep.{Seen}
-use Rattle.sweeps.specs.declared.Between.{Between}
+use Rattle.rows.specs.declared.Between.{Between}
 
 -- the first n bytes are 0 or 1
 abbrev pub Bits : List ℕ → ℕ → Type 0

@@ -15,10 +15,10 @@ use Rattle.mesh.specs.declared.Numbered.{Numbered}
 use Rattle.paths.specs.Differences.{hops}
 use Rattle.paths.specs.Offered.{route}
 use Rattle.paths.specs.Entries.{checkPath}
-use Rattle.sweeps.specs.Box.{far}
+use Rattle.rows.specs.Box.{far}
 use Rattle.sweeps.specs.Sweep.{nearer, waysIn}
 use Rattle.sweeps.specs.declared.Ways.{Ways}
-use Rattle.sweeps.specs.declared.Between.{Between}
+use Rattle.rows.specs.declared.Between.{Between}
 
 -- the node one step nearer: the first of X, Y and Z
 abbrev pub towards : Ways → Place → Place

@@ -1,7 +1,7 @@
 // A sweep with a byte for each node, and what is reached: such a sweep from the start, in the bytes that are lent.
 use mesh::Place;
 use mesh::Sizes;
-use sweeps::Between;
+use rows::Between;
 use sweeps::Ways;
 use sweeps::boxes::between;
 use sweeps::offers::leads_on;
@@ -17,8 +17,8 @@ ghost use Rattle.mesh.specs.Mesh.{nodes};
 ghost use Rattle.mesh.specs.Cells.{mapOf};
 ghost use Rattle.mesh.specs.Fill.{Filled};
 ghost use Rattle.paths.specs.Offered.{reached};
-ghost use Rattle.sweeps.specs.Box.{far};
-ghost use Rattle.sweeps.specs.Sweep.{Ready, Ends, WaysTo};
+ghost use Rattle.rows.specs.Box.{far, Ready};
+ghost use Rattle.sweeps.specs.Sweep.{Ends, WaysTo};
 ghost use Rattle.trails.specs.Spread.{Bits, Blank, Spread};
 
 // Every layer of a box, each at its own nodes, and the ways into the far corner.

@@ -2,7 +2,7 @@
 use mathlib.Core.Path.{ap}
 use Prim.Native.Nat.{_+_, _-_}
 use native.Mathlib.Omega.{arith}
-use Rattle.sweeps.proofs.Box.{steps-lt, widen}
+use Rattle.rows.proofs.Box.{steps-lt, widen}
 use Rattle.text.specs.Text.{ascii}
 use Rattle.text.proofs.Saying.{said-as}
 use Rattle.picture.specs.Picture.{toldWide, columnText}

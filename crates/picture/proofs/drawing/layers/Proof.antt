@@ -4,7 +4,7 @@ use mathlib.Core.List.{_++_}
 use Prim.Native.Nat.{ℕ, _+_, _-_}
 use native.Mathlib.Omega.{arith}
 use denote.Ref.{now}
-use Rattle.sweeps.proofs.Box.{widen}
+use Rattle.rows.proofs.Box.{widen}
 use Rattle.text.proofs.Saying.{said-as, said-then}
 use Rattle.text.specs.Text.{pieces}
 use Rattle.picture.specs.Picture.{rowIn, layerHead, layerText}

@@ -6,9 +6,10 @@ use denote.Ref.{now}
 use lib.ListN.{length, take}
 use Rattle.mesh.specs.Mesh.{nodes, placeOf}
 use Rattle.mesh.specs.Cells.{mapOf}
-use Rattle.sweeps.specs.Box.{between, Held}
+use Rattle.rows.specs.Box.{between, Held}
 use Rattle.sweeps.specs.Sweep.{Ends}
-use Rattle.sweeps.proofs.Box.{in-largest, held}
+use Rattle.rows.proofs.Box.{in-largest}
+use Rattle.sweeps.proofs.Runs.{held}
 use Rattle.routes.proofs.Ends.{ends-granted}
 use Rattle.text.proofs.Saying.{said-as, said-then}
 use Rattle.picture.specs.Picture.{symbols}

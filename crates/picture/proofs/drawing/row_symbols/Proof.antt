@@ -5,7 +5,7 @@ use Prim.Native.Nat.{ℕ, _+_, _-_}
 use native.Mathlib.Omega.{arith}
 use denote.Ref.{now}
 use lib.ListN.{getD}
-use Rattle.sweeps.proofs.Box.{gone-lt}
+use Rattle.rows.proofs.Box.{gone-lt}
 use Rattle.text.specs.Text.{ascii}
 use Rattle.text.proofs.Saying.{said-as, said-exact}
 use Rattle.picture.specs.Picture.{symbolAt}

@@ -7,10 +7,9 @@ use denote.Ref.{now}
 use lib.ListN.{length}
 use Rattle.mesh.specs.Mesh.{nodes}
 use Rattle.mesh.proofs.Numbers.{nodes-le, number-lt}
-use Rattle.sweeps.specs.Box.{rowRun, reach}
-use Rattle.sweeps.proofs.Box.{widen, reach-in}
-use Rattle.sweeps.proofs.Rows.{row-on}
-use Rattle.sweeps.specs.declared.Run.{Run}
+use Rattle.rows.specs.Box.{rowRun, reach}
+use Rattle.rows.proofs.Box.{widen, reach-in, row-on}
+use Rattle.rows.specs.declared.Run.{Run}
 use Rattle.text.proofs.Saying.{said-as}
 use Rattle.picture.specs.Picture.{rowText, rowIn}
 use Rattle.picture.proofs.Drawn.{narrow}

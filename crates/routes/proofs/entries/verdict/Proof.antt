@@ -17,7 +17,7 @@ use Rattle.paths.specs.Offered.{offered}
 use Rattle.paths.proofs.Differences.{hops-zero}
 use Rattle.paths.proofs.Offered.{offered-none, offered-leads}
 use Rattle.paths.proofs.Reached.{start-reached}
-use Rattle.sweeps.proofs.Box.{in-largest}
+use Rattle.rows.proofs.Box.{in-largest}
 use Rattle.routes.proofs.Ends.{Past, past-ends, verdict-refused, verdict-10, verdict-0}
 use Rattle.routes.proofs.entries.verdict.Statement.{statement}
 use Rattle.routes.proofs.entries.verdict.Tie as tie

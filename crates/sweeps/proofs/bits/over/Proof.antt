@@ -11,9 +11,9 @@ use Rattle.mesh.specs.Tools.{bit}
 use Rattle.mesh.specs.Mesh.{Inside}
 use Rattle.mesh.specs.Cells.{mapOf}
 use Rattle.rows.specs.Row.{bitAt, swept}
-use Rattle.sweeps.specs.Box.{largest, far}
+use Rattle.rows.specs.Box.{largest, far}
 use Rattle.sweeps.specs.Sweep.{rowBefore, Over}
-use Rattle.sweeps.proofs.Box.{far-in}
+use Rattle.rows.proofs.Box.{far-in}
 use Rattle.sweeps.proofs.RowSweep.{over-none, first-none, first-more, before-more, over-more, over-all}
 use Rattle.sweeps.proofs.bits.over.Statement.{statement}
 use Rattle.sweeps.proofs.bits.over.Tie as tie

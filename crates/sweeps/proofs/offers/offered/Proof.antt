@@ -12,13 +12,13 @@ use mir.Val.{toZ, ofZ}
 use Rattle.mesh.specs.Cells.{Map, mapOf}
 use Rattle.mesh.proofs.Whole.{back}
 use Rattle.paths.specs.Differences.{wanted}
-use Rattle.sweeps.specs.Box.{between, far}
+use Rattle.rows.specs.Box.{between, far}
 use Rattle.sweeps.specs.Sweep.{WaysTo, waysOf, flagOf}
-use Rattle.sweeps.proofs.Box.{held}
+use Rattle.sweeps.proofs.Runs.{held}
 use Rattle.sweeps.proofs.Entered.{ways-le}
 use Rattle.sweeps.proofs.Backward.{ahead, from-end}
 use Rattle.sweeps.proofs.Flags.{offered-is}
-use Rattle.sweeps.specs.declared.Between.{Between}
+use Rattle.rows.specs.declared.Between.{Between}
 use Rattle.sweeps.proofs.offers.offered.Statement.{statement}
 use Rattle.sweeps.proofs.offers.offered.Tie as tie
 

@@ -4,9 +4,9 @@ use native.Mathlib.Omega.{arith}
 use borrow.Author.Needs.{needs}
 use lib.ListN.{length}
 use Rattle.mesh.specs.Mesh.{Inside}
-use Rattle.sweeps.specs.Box.{largest, far}
+use Rattle.rows.specs.Box.{largest, far}
 use Rattle.sweeps.specs.Sweep.{prior, Holds}
-use Rattle.sweeps.proofs.Box.{far-in}
+use Rattle.rows.proofs.Box.{far-in}
 use Rattle.sweeps.proofs.RowSweep.{seed-rows, rows-ways}
 use Rattle.sweeps.proofs.offers.ways.Statement.{statement}
 use Rattle.sweeps.proofs.offers.ways.Tie as tie

@@ -7,11 +7,11 @@ use borrow.Author.Needs.{needs}
 use lib.ListN.{length, getD}
 use denote.Ref.{now}
 use Rattle.mesh.specs.Cells.{mayPass}
-use Rattle.sweeps.specs.Box.{gone, OnAxis}
+use Rattle.rows.specs.Box.{gone, OnAxis}
 use Rattle.sweeps.specs.Sweep.{joined, beside, Beside, Row, leading}
-use Rattle.sweeps.proofs.Box.{gone-lt, steps-lt}
+use Rattle.rows.proofs.Box.{gone-lt, steps-lt}
 use Rattle.sweeps.proofs.Rows.{beside-at, leading-first, leading-next, row-none, row-more}
-use Rattle.sweeps.specs.declared.Run.{Run}
+use Rattle.rows.specs.declared.Run.{Run}
 use Rattle.sweeps.proofs.sweep.row.Statement.{statement}
 use Rattle.sweeps.proofs.sweep.row.Tie as tie
 

@@ -5,11 +5,11 @@ use Prim.Native.Nat.{ℕ, _+_, _-_, _≤_}
 use native.Mathlib.Omega.{arith}
 use denote.Ref.{now}
 use Rattle.mesh.specs.Mesh.{Inside}
-use Rattle.sweeps.specs.Box.{largest, far, rowRun}
-use Rattle.sweeps.specs.Sweep.{spot, Row, Layer}
-use Rattle.sweeps.proofs.Box.{far-in}
+use Rattle.rows.specs.Box.{largest, far, rowRun, spot}
+use Rattle.sweeps.specs.Sweep.{Row, Layer}
+use Rattle.rows.proofs.Box.{far-in}
 use Rattle.sweeps.proofs.Waves.{layerOf, fromOf, from-le, from-first, from-next, row-next, rows-of, layer-none, layer-more}
-use Rattle.sweeps.specs.declared.Run.{Run}
+use Rattle.rows.specs.declared.Run.{Run}
 use Rattle.sweeps.proofs.sweep.sweep_layer.Statement.{statement}
 use Rattle.sweeps.proofs.sweep.sweep_layer.Tie as tie
 

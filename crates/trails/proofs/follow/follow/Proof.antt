@@ -12,8 +12,8 @@ use Rattle.mesh.proofs.Fill.{fill-none, fill-more}
 use Rattle.mesh.proofs.Numbers.{nodes-le}
 use Rattle.mesh.specs.declared.Sizes.{Sizes}
 use Rattle.mesh.specs.declared.Place.{Place}
-use Rattle.sweeps.specs.Box.{reach, Within}
-use Rattle.sweeps.specs.declared.Between.{Between}
+use Rattle.rows.specs.Box.{reach, Within}
+use Rattle.rows.specs.declared.Between.{Between}
 use Rattle.trails.specs.Table.{nearest, trail}
 use Rattle.trails.proofs.Following.{trail-within}
 use Rattle.trails.proofs.follow.follow.Statement.{statement}

@@ -18,13 +18,13 @@ use Rattle.mesh.proofs.Numbers.{nodes-le}
 use Rattle.mesh.specs.declared.Sizes.{Sizes}
 use Rattle.paths.specs.Differences.{hops}
 use Rattle.paths.specs.Paths.{leads}
-use Rattle.sweeps.specs.Box.{between, reach, far}
-use Rattle.sweeps.specs.Sweep.{Ready, WaysTo, waysOf}
-use Rattle.sweeps.proofs.Box.{held}
+use Rattle.rows.specs.Box.{between, reach, far, Ready}
+use Rattle.sweeps.specs.Sweep.{WaysTo, waysOf}
+use Rattle.sweeps.proofs.Runs.{held}
 use Rattle.sweeps.proofs.Entered.{ways-le}
 use Rattle.sweeps.proofs.Backward.{ahead, from-end}
 use Rattle.sweeps.specs.declared.Ways.{Ways}
-use Rattle.sweeps.specs.declared.Between.{Between}
+use Rattle.rows.specs.declared.Between.{Between}
 use Rattle.trails.specs.Spread.{Spread}
 use Rattle.trails.specs.Table.{trail}
 use Rattle.trails.proofs.Layers.{room-of}

@@ -11,8 +11,8 @@ use Rattle.mesh.specs.Tools.{bit}
 use Rattle.mesh.specs.Mesh.{Inside, nodes}
 use Rattle.mesh.specs.Cells.{mapOf}
 use Rattle.mesh.proofs.Bits.{bit-le}
-use Rattle.sweeps.specs.Box.{largest, far}
-use Rattle.sweeps.proofs.Box.{far-in}
+use Rattle.rows.specs.Box.{largest, far}
+use Rattle.rows.proofs.Box.{far-in}
 use Rattle.trails.specs.Spread.{Spread}
 use Rattle.trails.proofs.Layers.{room-of, spread-none, spread-laid, spread-more, spread-seeds, spread-from, ways-in}
 use Rattle.trails.proofs.spread.spread.Statement.{statement}

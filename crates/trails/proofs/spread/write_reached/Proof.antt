@@ -14,13 +14,13 @@ use Rattle.mesh.specs.Fill.{Filled}
 use Rattle.mesh.specs.declared.Place.{Place}
 use Rattle.paths.specs.Differences.{hops}
 use Rattle.paths.specs.Paths.{leads}
-use Rattle.sweeps.specs.Box.{between, far}
+use Rattle.rows.specs.Box.{between, far}
 use Rattle.sweeps.specs.Sweep.{waysOf, WaysTo}
-use Rattle.sweeps.proofs.Box.{held}
+use Rattle.sweeps.proofs.Runs.{held}
 use Rattle.sweeps.proofs.Entered.{ways-le}
 use Rattle.sweeps.proofs.Forward.{behind, from-start}
 use Rattle.sweeps.specs.declared.Ways.{Ways}
-use Rattle.sweeps.specs.declared.Between.{Between}
+use Rattle.rows.specs.declared.Between.{Between}
 use Rattle.trails.specs.Spread.{Spread}
 use Rattle.trails.proofs.Spreading.{end-ways, reached-written}
 use Rattle.trails.proofs.spread.write_reached.Statement.{statement}

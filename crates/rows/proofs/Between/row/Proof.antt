@@ -1,7 +1,7 @@
--- `sweeps::Between::row` meets its contract. Assumes nothing.
+-- `rows::Between::row` meets its contract. Assumes nothing.
 use borrow.Author.Needs.{needs}
-use Rattle.sweeps.proofs.Between.row.Statement.{statement}
-use Rattle.sweeps.proofs.Between.row.Tie as tie
+use Rattle.rows.proofs.Between.row.Statement.{statement}
+use Rattle.rows.proofs.Between.row.Tie as tie
 
 returns : tie.Need-returns
 returns c = rw (c .node .ensures .0)

@@ -1,9 +1,9 @@
--- `sweeps::Between::node` meets its contract: a box that is held stays in the mesh. Assumes nothing.
+-- `rows::Between::node` meets its contract: a box that is held stays in the mesh. Assumes nothing.
 use native.Mathlib.Omega.{arith}
 use Rattle.mesh.specs.Mesh.{place}
-use Rattle.sweeps.proofs.Box.{widen, reach-in}
-use Rattle.sweeps.proofs.Between.node.Statement.{statement}
-use Rattle.sweeps.proofs.Between.node.Tie as tie
+use Rattle.rows.proofs.Box.{widen, reach-in}
+use Rattle.rows.proofs.Between.node.Statement.{statement}
+use Rattle.rows.proofs.Between.node.Tie as tie
 
 at-requires : tie.Need-at-requires
 at-requires c κs = let s = c .before .before .before in (widen (s .args .self .x) (s .args .s .w) (s .pre .1 .x-on) 4096 (omega arith), s .pre .2 .x-le)

@@ -1,7 +1,7 @@
--- `sweeps::Run::at` meets its contract. Assumes nothing.
+-- `rows::Run::at` meets its contract. Assumes nothing.
 use native.Mathlib.Omega.{arith}
-use Rattle.sweeps.proofs.Run.at.Statement.{statement}
-use Rattle.sweeps.proofs.Run.at.Tie as tie
+use Rattle.rows.proofs.Run.at.Statement.{statement}
+use Rattle.rows.proofs.Run.at.Tie as tie
 
 sub-result : tie.Need-sub-result
 sub-result c = omega (arith, c .before .before .pre .0 .low (c .before .if1 .taken))

@@ -2,14 +2,17 @@
 -- contracts are stated in these words, and so is the picture of a refusal. Assumes nothing.
 use mathlib.Core.Path.{_≡_}
 use mathlib.Core.Bool.{true, false, cond}
+use mathlib.Core.List.{List}
 use Prim.Native.Nat.{ℕ, _+_, _-_, _<_, _≤_}
 use lib.IntN.{natAbs, subℕ}
+use lib.ListN.{length, getD}
 use lib.Dec.{ltb}
-use Rattle.mesh.specs.Mesh.{sizes, place, number}
+use Rattle.mesh.specs.Mesh.{sizes, place, nodes, number, InRange}
+use Rattle.mesh.specs.Cells.{badCell}
 use Rattle.mesh.specs.declared.Sizes.{Sizes}
 use Rattle.mesh.specs.declared.Place.{Place}
-use Rattle.sweeps.specs.declared.Run.{Run}
-use Rattle.sweeps.specs.declared.Between.{Between}
+use Rattle.rows.specs.declared.Run.{Run}
+use Rattle.rows.specs.declared.Between.{Between}
 
 -- every mesh fits into it
 abbrev pub largest : Sizes
@@ -53,3 +56,23 @@ pub record Held (S : Sizes) (g : Between) : Type 0 where
   pub x-on : OnAxis (g .x) (S .w)
   pub y-on : OnAxis (g .y) (S .h)
   pub z-on : OnAxis (g .z) (S .d)
+
+-- the number of the node after a, b and c steps
+abbrev pub spot : Sizes → Between → ℕ → ℕ → ℕ → ℕ
+spot S g a b c = number S (reach g (place a b c))
+
+-- each byte is a cell
+abbrev pub Good : Sizes → List ℕ → Type 0
+Good S cells = (k : ℕ) → k < length cells → badCell S k (getD cells k 0) ≡ false
+
+-- a byte for each node of a mesh, and a box in it
+pub record Ready (S : Sizes) (cells : List ℕ) (g : Between) : Type 0 where
+  pub sized : InRange S
+  pub whole : length cells ≡ nodes S
+  pub held : Held S g
+
+-- a byte for each node of a box
+pub record Room (S : Sizes) (g : Between) (bytes : List ℕ) : Type 0 where
+  pub sized : InRange S
+  pub held : Held S g
+  pub fits : (t : Place) → Within g t → number S (reach g t) < length bytes
