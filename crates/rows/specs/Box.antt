@@ -3,14 +3,16 @@
 use mathlib.Core.Path.{_≡_}
 use mathlib.Core.Bool.{true, false, cond}
 use mathlib.Core.List.{List}
-use Prim.Native.Nat.{ℕ, _+_, _-_, _<_, _≤_}
+use Prim.Native.Nat.{ℕ, _+_, _-_, _*_, _<_, _≤_}
 use lib.IntN.{natAbs, subℕ}
 use lib.ListN.{length, getD}
 use lib.Dec.{ltb}
+use Rattle.mesh.specs.Tools.{bit}
 use Rattle.mesh.specs.Mesh.{sizes, place, nodes, number, InRange}
 use Rattle.mesh.specs.Cells.{badCell}
 use Rattle.mesh.specs.declared.Sizes.{Sizes}
 use Rattle.mesh.specs.declared.Place.{Place}
+use Rattle.rows.specs.Row.{bitAt}
 use Rattle.rows.specs.declared.Run.{Run}
 use Rattle.rows.specs.declared.Between.{Between}
 
@@ -76,3 +78,9 @@ pub record Room (S : Sizes) (g : Between) (bytes : List ℕ) : Type 0 where
   pub sized : InRange S
   pub held : Held S g
   pub fits : (t : Place) → Within g t → number S (reach g t) < length bytes
+
+-- In the first n rows of layer c, v is added to the byte of each node whose bit is 1; no other byte changes.
+pub record AddedRows (S : Sizes) (g : Between) (c v : ℕ) (rows old new : List ℕ) (n : ℕ) : Type 0 where
+  pub at : (a b : ℕ) → a ≤ g .x .steps → b < n → b ≤ g .y .steps → getD new (spot S g a b c) 0 ≡ getD old (spot S g a b c) 0 + v * bit (bitAt (getD rows b 0) a)
+  pub kept : (i : ℕ) → ((a b : ℕ) → a ≤ g .x .steps → b < n → b ≤ g .y .steps → i ≡ spot S g a b c → ⊥) → getD new i 0 ≡ getD old i 0
+  pub size : length new ≡ length old
