@@ -4,3 +4,6 @@ pub mod Eight
 pub mod Packs
 pub mod Box
 pub mod Faulty
+pub mod Spread
+pub mod Unpacks
+pub mod Words

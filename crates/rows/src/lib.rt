@@ -2,6 +2,7 @@
 pub mod boxes;
 pub mod layer;
 pub mod pack;
+pub mod unpack;
 
 ghost use mathlib.Core.Path.{_≡_};
 ghost use Prim.Native.Nat.{ℕ, _+_, _^_, _≤_};

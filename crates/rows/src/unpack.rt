@@ -1,0 +1,109 @@
+// A row of bits to bytes: bit k is that of the node k steps on. Eight bytes are one word, in which no sum of two bytes goes over into the next.
+ghost use mathlib.Core.Path.{_≡_};
+ghost use mathlib.Core.Bool.{true, false};
+ghost use Prim.Native.Nat.{_+_, _*_, _/_, _%_, _^_, _≤_, _<_};
+ghost use lib.ListN.{length, getD};
+ghost use Rattle.mesh.specs.Tools.{bit};
+ghost use Rattle.mesh.specs.Fill.{Filled};
+ghost use Rattle.rows.specs.Row.{bitAt, onwards, Span};
+ghost use Rattle.rows.specs.Bytes.{joined, turned, Room, Added};
+
+// Of each of eight bytes bit 0, and all but bit 7.
+const ONES: u64 = 72340172838076673;
+
+const REST: u64 = 9187201950435737471;
+
+// Of byte k bit k, and bit 7 - k.
+const UP: u64 = 9241421688590303745;
+
+const DOWN: u64 = 72624976668147840;
+
+// Eight bits, one to a byte: of each byte one bit is kept, and the sum has bit 7 where it is 1.
+fn spread(bits: u64, down: bool) -> u64
+    requires { ⌜ bits < 256 ⌝ }
+    ensures { λ r. ⌜ r ≡ joined (λ k. bit (bitAt bits (turned down k))) 8 ⌝ }
+{
+    if down {
+        return (((bits * ONES) & DOWN) + REST) / 128 & ONES;
+    }
+    (((bits * ONES) & UP) + REST) / 128 & ONES
+}
+
+// Eight bytes as one word, and such a word as eight bytes.
+fn word(out: &[u8], p: usize) -> u64
+    requires { ⌜ p + 8 ≤ length (now out) ⌝ }
+    ensures { λ r. ⌜ r ≡ joined (λ k. getD (now (out .entry)) (p + k) 0) 8 ⌝ }
+{
+    let mut x: u64 = 0;
+    for k in 0..8 {
+        x = out[p + (7 - k)] as u64 + 256 * x;
+    }
+    x
+}
+
+fn put(x: u64, out: &mut [u8], p: usize)
+    requires { ⌜ p + 8 ≤ length (now out) ⌝ }
+    ensures { λ _. ⌜ Filled (λ k. p + k) (λ k. x / 2 ^ (8 * k) % 256) (now (out .entry)) (now (out .exit)) 8 ⌝ }
+{
+    for k in 0..8 {
+        out[p + k] = ((x >> (8 * k)) % 256) as u8;
+    }
+}
+
+// The node k steps on.
+fn at(from: usize, k: usize, down: bool) -> usize
+    requires { ⌜ (down ≡ true → k ≤ from) × (down ≡ false → from + k < 18446744073709551616) ⌝ }
+    ensures { λ r. ⌜ r ≡ onwards down from k ⌝ }
+{
+    if down {
+        return from - k;
+    }
+    from + k
+}
+
+// The first of eight nodes in the order of their numbers.
+fn lowest(from: usize, down: bool) -> usize
+    requires { ⌜ (down ≡ true → 7 ≤ from) ⌝ }
+    ensures { λ r. ⌜ r ≡ onwards down from (turned down 0) ⌝ }
+{
+    if down {
+        return from - 7;
+    }
+    from
+}
+
+// Adds v to the byte of each of eight nodes, from one on, whose bit is 1.
+fn eight(bits: u16, v: u8, out: &mut [u8], from: usize, down: bool)
+    requires { ⌜ (bits < 256) × Span (now out) down from 8 × Room (now out) down from 8 v ⌝ }
+    ensures { λ _. ⌜ Added (now (out .entry)) (now (out .exit)) down from 8 bits v ⌝ }
+{
+    let p = lowest(from, down);
+    let x = word(out, p) + v as u64 * spread(bits as u64, down);
+    put(x, out, p);
+}
+
+// w nodes, one by one.
+fn few(bits: u16, v: u8, out: &mut [u8], from: usize, w: usize, down: bool)
+    requires { ⌜ Span (now out) down from w × Room (now out) down from w v ⌝ }
+    ensures { λ _. ⌜ Added (now (out .entry)) (now (out .exit)) down from w bits v ⌝ }
+{
+    let mut rest = bits;
+    for k in 0..w {
+        let i = at(from, k, down);
+        out[i] = out[i] + v * (rest % 2) as u8;
+        rest = rest / 2;
+    }
+}
+
+// Adds v to the byte of each of w nodes, from one on, whose bit is 1.
+pub fn add_row(bits: u16, v: u8, out: &mut [u8], from: usize, w: usize, down: bool)
+    requires { ⌜ Span (now out) down from w × Room (now out) down from w v ⌝ }
+    ensures { λ _. ⌜ Added (now (out .entry)) (now (out .exit)) down from w bits v ⌝ }
+{
+    if w == 16 {
+        eight(bits % 256, v, out, from, down);
+        eight(bits / 256, v, out, at(from, 8, down), down);
+        return;
+    }
+    few(bits, v, out, from, w, down);
+}
