@@ -1,4 +1,4 @@
--- Eight bits, one to a byte. Assumes nothing.
+-- Eight bits, one to a byte: tried for all 256 of them. Assumes nothing.
 use mathlib.Core.Path.{_≡_}
 use mathlib.Core.Bool.{Bool, true, false}
 use Prim.Native.Nat.{ℕ, _+_, _*_, _/_, _<_}
@@ -9,7 +9,7 @@ use Rattle.mesh.proofs.Tests.{T-all, T-eq}
 use Rattle.rows.specs.Row.{bitAt}
 use Rattle.rows.specs.Bytes.{joined, turned}
 
--- how they are spread with a mask, and that this is right
+-- how they are spread by a mask, and that this is right
 abbrev spreadBy : ℕ → ℕ → ℕ
 spreadBy mask b = bitAnd ((bitAnd (b * 72340172838076673) mask + 9187201950435737471) / 128) 72340172838076673
 

@@ -2,7 +2,7 @@
 use mathlib.Core.Path.{_≡_, refl, sym, ap, _∙_}
 use mathlib.Core.Bool.{Bool, true, false}
 use mathlib.Core.List.{List}
-use Prim.Native.Nat.{ℕ, zero, suc, _+_, _-_, _*_, _/_, _%_, _^_, _<_, _≤_}
+use Prim.Native.Nat.{ℕ, _+_, _-_, _*_, _/_, _%_, _^_, _<_, _≤_}
 use native.Mathlib.Nat.{mul-zero, mul-one}
 use native.Mathlib.Omega.{arith}
 use borrow.Author.Tests.{ltb-true, ltb-false}
@@ -13,21 +13,21 @@ use Rattle.mesh.specs.Tools.{bit}
 use Rattle.mesh.specs.Fill.{Filled}
 use Rattle.mesh.proofs.Fill.{fill-more}
 use Rattle.rows.specs.Row.{bitAt, onwards, Span}
-use Rattle.rows.specs.Bytes.{joined, turned, Room, Added}
+use Rattle.rows.specs.Bytes.{joined, turned, Takes, Added}
 use Rattle.rows.proofs.Bits.{read-at}
 use Rattle.rows.proofs.Words.{joined-lt, joined-add, byte-of}
 
 -- v is added or not
-pub part-le : (v : ℕ) (b : Bool) → v * bit b ≤ v
+part-le : (v : ℕ) (b : Bool) → v * bit b ≤ v
 part-le v true = rw mul-one (omega arith)
 part-le v false = rw mul-zero (omega arith)
 
 -- w nodes have cells, each its own
-pub inside : (l : List ℕ) (down : Bool) (from w : ℕ) → Span l down from w → (k : ℕ) → k < w → onwards down from k < length l
+inside : (l : List ℕ) (down : Bool) (from w : ℕ) → Span l down from w → (k : ℕ) → k < w → onwards down from k < length l
 inside l true from w s k h = omega (arith, s .starts)
 inside l false from w s k h = omega (arith, s .high refl)
 
-pub apart : (l : List ℕ) (down : Bool) (from w : ℕ) → Span l down from w → (i k : ℕ) → i < k → k < w → onwards down from i ≡ onwards down from k → ⊥
+apart : (l : List ℕ) (down : Bool) (from w : ℕ) → Span l down from w → (i k : ℕ) → i < k → k < w → onwards down from i ≡ onwards down from k → ⊥
 apart l true from w s i k h g e = omega (arith, s .low refl)
 apart l false from w s i k h g e = omega arith
 
@@ -43,7 +43,7 @@ module _ (old new : List ℕ) (down : Bool) (from w bits v : ℕ) (s : Span old 
   pub few-in : q < length new
   few-in = rw (is, A .2 .size) (inside old down from w s k h)
 
-  pub few-fits : Room old down from w v → getD new q 0 + v * (rest % 2) ≤ 255
+  pub few-fits : Takes old down from w v → getD new q 0 + v * (rest % 2) ≤ 255
   few-fits r = rw (same, last) (omega (arith, r k h, part-le v (bitAt bits k)))
 
   pub few-more : (k + 1 ≤ w) × (rest / 2 ≡ bits / 2 ^ (k + 1)) × Added old (set new q (getD new q 0 + v * (rest % 2))) down from (k + 1) bits v
@@ -73,7 +73,7 @@ module _ (old : List ℕ) where
   eight-in false from p s is = omega (arith, s .high refl)
 
   -- their bytes as one word x, and their bits, one to a byte, as y
-  module _ (down : Bool) (from bits v p x y : ℕ) (s : Span old down from 8) (r : Room old down from 8 v) (is : p ≡ onwards down from (turned down 0))
+  module _ (down : Bool) (from bits v p x y : ℕ) (s : Span old down from 8) (r : Takes old down from 8 v) (is : p ≡ onwards down from (turned down 0))
       (ex : x ≡ joined (λ k. getD old (p + k) 0) 8) (ey : y ≡ joined (λ k. bit (bitAt bits (turned down k))) 8) where
     abbrev byte : ℕ → ℕ
     byte k = getD old (p + k) 0 + v * bit (bitAt bits (turned down k))
@@ -127,7 +127,7 @@ module _ (old mid : List ℕ) (down : Bool) (from w bits v q : ℕ) (sixteen : w
     high = λ e. let f : q ≡ from + 8 = rw e at is in omega (arith, s .high e, A .size);
   }
 
-  pub next-room : Room old down from w v → Room mid down q 8 v
+  pub next-room : Takes old down from w v → Takes mid down q 8 v
   next-room r k h = rw (kept k h) (r (8 + k) (omega arith))
 
   pub both : (new : List ℕ) → Added mid new down q 8 (bits / 256) v → Added old new down from w bits v

@@ -1,5 +1,5 @@
 -- Bytes joined to words. Assumes nothing.
-use mathlib.Core.Path.{_≡_, refl, sym, ap, ap₂, _∙_}
+use mathlib.Core.Path.{_≡_, refl, sym, ap, _∙_}
 use Prim.Native.Nat.{ℕ, zero, suc, _+_, _-_, _*_, _/_, _%_, _^_, _<_, _≤_}
 use native.Mathlib.Nat.{mul-add, mul-left-comm}
 use native.Mathlib.Omega.{arith}
@@ -7,7 +7,7 @@ use native.Mathlib.Numerals.{add-one}
 use lib.Pow.{pow-add, pow-mono, shr-shr}
 use Rattle.rows.specs.Bytes.{joined}
 
-pub joined-same : (f g : ℕ → ℕ) (n : ℕ) → ((k : ℕ) → k < n → f k ≡ g k) → joined f n ≡ joined g n
+joined-same : (f g : ℕ → ℕ) (n : ℕ) → ((k : ℕ) → k < n → f k ≡ g k) → joined f n ≡ joined g n
 unfolding joined
 joined-same f g zero e = refl
 joined-same f g (suc n) e = rw (e 0 (omega arith), joined-same (λ k. f (suc k)) (λ k. g (suc k)) n (λ k l. e (suc k) (omega arith)))
@@ -40,24 +40,17 @@ joined-add f g v (suc n) =
     let e : v * (g 0 + 256 * joined (λ k. g (suc k)) n) ≡ v * g 0 + 256 * (v * joined (λ k. g (suc k)) n) = rw (mul-add, mul-left-comm v 256) in
     omega (arith, e, joined-add (λ k. f (suc k)) (λ k. g (suc k)) v n)
 
--- byte by byte from the last of eight: one more in front; all
+-- byte by byte from the last of eight: one more in front; all; there is room for one more
 module _ (f : ℕ → ℕ) where
-  pub word-none : 0 ≡ joined (λ i. f (8 - 0 + i)) 0
-  unfolding joined
-  word-none = refl
-
   pub word-more : (k x : ℕ) → k < 8 → x ≡ joined (λ i. f (8 - k + i)) k → f (7 - k) + 256 * x ≡ joined (λ i. f (8 - (k + 1) + i)) (k + 1)
   unfolding joined
   word-more k x l e =
       let p : 8 - suc k + 0 ≡ 7 - k = omega arith in
-      let q : joined (λ i. f (8 - k + i)) k ≡ joined (λ i. f (8 - suc k + suc i)) k =
-      joined-same (λ i. f (8 - k + i)) (λ i. f (8 - suc k + suc i)) k (λ i h. ap f (omega arith)) in
-      rw (add-one, p) (omega arith)
+      rw (add-one, p) (omega (arith, joined-same (λ i. f (8 - k + i)) (λ i. f (8 - suc k + suc i)) k (λ i h. ap f (omega arith))))
 
   pub word-all : (k x : ℕ) → k ≡ 8 → x ≡ joined (λ i. f (8 - k + i)) k → x ≡ joined f 8
   word-all k x h e = e ∙ (rw h) ∙ joined-same (λ i. f (8 - 8 + i)) f 8 (λ i l. ap f (omega arith))
 
-  -- there is room for one more
   pub word-lt : (k x : ℕ) → k < 8 → x ≡ joined (λ i. f (8 - k + i)) k → ((i : ℕ) → f i < 256) → x < 2 ^ 56
   word-lt k x l e h =
       let m : 8 * k ≤ 56 = omega arith in

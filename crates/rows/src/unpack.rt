@@ -6,19 +6,21 @@ ghost use lib.ListN.{length, getD};
 ghost use Rattle.mesh.specs.Tools.{bit};
 ghost use Rattle.mesh.specs.Fill.{Filled};
 ghost use Rattle.rows.specs.Row.{bitAt, onwards, Span};
-ghost use Rattle.rows.specs.Bytes.{joined, turned, Room, Added};
+ghost use Rattle.rows.specs.Bytes.{joined, turned, Takes, Added};
 
-// Of each of eight bytes bit 0, and all but bit 7.
+// Bit 0 of each of eight bytes.
 const ONES: u64 = 72340172838076673;
 
+// Bits 0 to 6 of each of eight bytes.
 const REST: u64 = 9187201950435737471;
 
-// Of byte k bit k, and bit 7 - k.
+// Bit k of byte k, for each of eight bytes.
 const UP: u64 = 9241421688590303745;
 
+// Bit 7 - k of byte k.
 const DOWN: u64 = 72624976668147840;
 
-// Eight bits, one to a byte: of each byte one bit is kept, and the sum has bit 7 where it is 1.
+// Eight bits, one to a byte. All of them stand in each byte of the product; the mask keeps one, and the sum takes that to bit 7.
 fn spread(bits: u64, down: bool) -> u64
     requires { ⌜ bits < 256 ⌝ }
     ensures { λ r. ⌜ r ≡ joined (λ k. bit (bitAt bits (turned down k))) 8 ⌝ }
@@ -52,7 +54,7 @@ fn put(x: u64, out: &mut [u8], p: usize)
 
 // The node k steps on.
 fn at(from: usize, k: usize, down: bool) -> usize
-    requires { ⌜ (down ≡ true → k ≤ from) × (down ≡ false → from + k < 18446744073709551616) ⌝ }
+    requires { ⌜ (down ≡ true → k ≤ from) × (down ≡ false → from + k < 2 ^ 64) ⌝ }
     ensures { λ r. ⌜ r ≡ onwards down from k ⌝ }
 {
     if down {
@@ -74,7 +76,7 @@ fn lowest(from: usize, down: bool) -> usize
 
 // Adds v to the byte of each of eight nodes, from one on, whose bit is 1.
 fn eight(bits: u16, v: u8, out: &mut [u8], from: usize, down: bool)
-    requires { ⌜ (bits < 256) × Span (now out) down from 8 × Room (now out) down from 8 v ⌝ }
+    requires { ⌜ (bits < 256) × Span (now out) down from 8 × Takes (now out) down from 8 v ⌝ }
     ensures { λ _. ⌜ Added (now (out .entry)) (now (out .exit)) down from 8 bits v ⌝ }
 {
     let p = lowest(from, down);
@@ -84,7 +86,7 @@ fn eight(bits: u16, v: u8, out: &mut [u8], from: usize, down: bool)
 
 // w nodes, one by one.
 fn few(bits: u16, v: u8, out: &mut [u8], from: usize, w: usize, down: bool)
-    requires { ⌜ Span (now out) down from w × Room (now out) down from w v ⌝ }
+    requires { ⌜ Span (now out) down from w × Takes (now out) down from w v ⌝ }
     ensures { λ _. ⌜ Added (now (out .entry)) (now (out .exit)) down from w bits v ⌝ }
 {
     let mut rest = bits;
@@ -97,7 +99,7 @@ fn few(bits: u16, v: u8, out: &mut [u8], from: usize, w: usize, down: bool)
 
 // Adds v to the byte of each of w nodes, from one on, whose bit is 1.
 pub fn add_row(bits: u16, v: u8, out: &mut [u8], from: usize, w: usize, down: bool)
-    requires { ⌜ Span (now out) down from w × Room (now out) down from w v ⌝ }
+    requires { ⌜ Span (now out) down from w × Takes (now out) down from w v ⌝ }
     ensures { λ _. ⌜ Added (now (out .entry)) (now (out .exit)) down from w bits v ⌝ }
 {
     if w == 16 {

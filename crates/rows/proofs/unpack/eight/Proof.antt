@@ -2,7 +2,6 @@
 use Prim.Native.Nat.{_+_, _*_, _<_, _^_}
 use native.Mathlib.Omega.{arith}
 use borrow.Author.Needs.{needs}
-use denote.Ref.{now}
 use Rattle.rows.proofs.Unpacks.{eight-in, eight-lt, eight-added}
 use Rattle.rows.proofs.unpack.eight.Statement.{statement}
 use Rattle.rows.proofs.unpack.eight.Tie as tie

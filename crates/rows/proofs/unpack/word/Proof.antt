@@ -1,12 +1,12 @@
 -- `rows::unpack::word` meets its contract: each turn puts one byte more in front. Assumes nothing.
-use mathlib.Core.Path.{_≡_}
+use mathlib.Core.Path.{_≡_, refl}
 use Prim.Native.Nat.{_+_, _-_, _≤_, _<_, _^_}
 use native.Mathlib.Omega.{arith}
 use borrow.Author.Needs.{needs}
 use lib.ListN.{getD}
 use denote.Ref.{now}
 use Rattle.rows.specs.Bytes.{joined}
-use Rattle.rows.proofs.Words.{word-none, word-more, word-all, word-lt}
+use Rattle.rows.proofs.Words.{word-more, word-all, word-lt}
 use Rattle.rows.proofs.unpack.word.Statement.{statement}
 use Rattle.rows.proofs.unpack.word.Tie as tie
 
@@ -17,7 +17,8 @@ abbrev μ-loop : tie.MeasureT-loop
 μ-loop out p x₀ k₀ x k = 8 - k
 
 loop-holds : tie.Need-loop-holds Inv-loop μ-loop
-loop-holds c = let a = c .args in (omega arith, word-none (λ i. getD (now (a .out)) (a .p + i) 0))
+unfolding joined
+loop-holds c = (omega arith, refl)
 
 small : (c : tie.After-shared-slice-known Inv-loop μ-loop) → c .before .before .loop .x < 2 ^ 56
 small c =
