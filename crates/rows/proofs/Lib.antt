@@ -7,3 +7,4 @@ pub mod Faulty
 pub mod Spread
 pub mod Unpacks
 pub mod Words
+pub mod Adding

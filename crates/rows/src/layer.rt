@@ -1,13 +1,15 @@
 // The rows of a layer of a box.
 use crate::Between;
 use crate::pack::pack_row;
+use crate::unpack::add_row;
 use mesh::Sizes;
 ghost use mathlib.Core.Path.{_≡_};
-ghost use Prim.Native.Nat.{_+_, _≤_};
+ghost use Prim.Native.Nat.{ℕ, _+_, _≤_, _<_};
+ghost use lib.ListN.{length, getD};
 ghost use Rattle.mesh.specs.Mesh.{place};
 ghost use Rattle.mesh.specs.Cells.{mapOf, faulty};
 ghost use Rattle.rows.specs.Row.{packed};
-ghost use Rattle.rows.specs.Box.{reach, Good, Ready};
+ghost use Rattle.rows.specs.Box.{reach, spot, Good, Ready, Room, AddedRows};
 
 // The faulty nodes of row b of layer c.
 pub fn faulty_row(s: Sizes, cells: &[u8], g: Between, b: usize, c: usize) -> u16
@@ -16,4 +18,20 @@ pub fn faulty_row(s: Sizes, cells: &[u8], g: Between, b: usize, c: usize) -> u16
 {
     let x = g.x;
     pack_row(cells, 0, g.node(s, 0, b, c), x.steps + 1, x.down)
+}
+
+// Adds v to the byte of each node of layer c whose bit is 1.
+pub fn add_layer(s: Sizes, g: Between, c: usize, rows: &[u16], v: u8, out: &mut [u8])
+    requires { ⌜ Room s g (now out) × (g .y .steps < length (now rows)) × (c ≤ g .z .steps)
+        × ((a b : ℕ) → a ≤ g .x .steps → b ≤ g .y .steps → getD (now out) (spot s g a b c) 0 + v ≤ 255) ⌝ }
+    ensures { λ _. ⌜ AddedRows s g c v (now (rows .entry)) (now (out .entry)) (now (out .exit)) (g .y .steps + 1) ⌝ }
+{
+    let x = g.x;
+    let w = x.steps + 1;
+    let n = g.y.steps + 1;
+    let mut b = 0;
+    while b < n {
+        add_row(rows[b], v, out, g.node(s, 0, b, c), w, x.down);
+        b += 1;
+    }
 }
