@@ -1,10 +1,10 @@
 pub mod Bits
 pub mod Carries
-pub mod Eight
 pub mod Packs
-pub mod Box
-pub mod Faulty
+pub mod Sixteen
+pub mod Words
 pub mod Spread
 pub mod Unpacks
-pub mod Words
+pub mod Box
+pub mod Faulty
 pub mod Adding

@@ -60,9 +60,13 @@ packed-low f (suc w) (suc n) h =
     let e : bit (f 0) + 2 * p ≡ p / 2 ^ w * 2 ^ suc w + (bit (f 0) + 2 * packed (λ k. f (suc k)) w) = omega (arith, split p w) in
     ap (λ n. n % 2 ^ suc w) e ∙ low (p / 2 ^ w) (suc w) (packed-lt f (suc w))
 
-pub packed-twice : (f : ℕ → Bool) → packed f 16 ≡ packed f 8 + 256 * packed (λ k. f (8 + k)) 8
+-- twice eight
+packed-parts : (f : ℕ → Bool) → packed f 8 + 256 * packed (λ k. f (8 + k)) 8 ≡ packed f 16
 unfolding packed
-packed-twice f = omega arith
+packed-parts f = omega arith
+
+pub packed-twice : (f g h : ℕ → Bool) → ((k : ℕ) → k < 8 → f k ≡ h k) → ((k : ℕ) → k < 8 → g k ≡ h (8 + k)) → packed f 8 + 256 * packed g 8 ≡ packed h 16
+packed-twice f g h low high = rw (packed-same f h 8 low, packed-same g (λ k. h (8 + k)) 8 high) (packed-parts h)
 
 -- the bits after the first s
 packed-after : (f : ℕ → Bool) (s n m : ℕ) → m ≡ s + n → packed f m / 2 ^ s ≡ packed (λ k. f (s + k)) n
@@ -88,23 +92,15 @@ packed-not f (suc n) = omega (arith, packed-not (λ k. f (suc k)) n, bit-not (f 
     bit-not true = refl
     bit-not false = refl
 
--- eight bits
-pub eight-is : (f : ℕ → Bool) (v : Bool) → v ≡ f 0
-    → bit v + 2 * (bit (f 1) + 2 * (bit (f 2) + 2 * (bit (f 3) + 2 * (bit (f 4) + 2 * (bit (f 5) + 2 * (bit (f 6) + 2 * bit (f 7))))))) ≡ packed f 8
-unfolding packed
-eight-is f v e = rw e (omega arith)
-
 -- a bit shifted
 pub power : (w : ℕ) → w ≤ 16 → (1 * 2 ^ w) % 2 ^ 32 ≡ 2 ^ w
 power w h = shl-exact 1 w 32 (omega arith) (omega arith) ∙ one-mul (2 ^ w)
 
 -- w of sixteen nodes, after the first s
-pub some-of : (f g h : ℕ → Bool) (x y s w : ℕ) → x ≡ packed f 8 → y ≡ packed g 8 → ((k : ℕ) → k < 8 → g k ≡ f (8 + k)) → ((k : ℕ) → k < w → f (s + k) ≡ h k) → s + w ≤ 16
-    → (x + y * 256) / 2 ^ s % 2 ^ w ≡ packed h w
-some-of f g h x y s w ex ey same on l =
-    let e : x + y * 256 ≡ packed f 16 = omega (arith, packed-twice f, packed-same g (λ k. f (8 + k)) 8 same) in
+pub some-of : (f g : ℕ → Bool) (x s w : ℕ) → x ≡ packed f 16 → ((k : ℕ) → k < w → f (s + k) ≡ g k) → s + w ≤ 16 → x / 2 ^ s % 2 ^ w ≡ packed g w
+some-of f g x s w e on l =
     ap (λ n. n / 2 ^ s % 2 ^ w) e ∙ ap (λ n. n % 2 ^ w) (packed-after f s (16 - s) 16 (omega arith))
-    ∙ packed-low (λ k. f (s + k)) w (16 - s) (omega arith) ∙ packed-same (λ k. f (s + k)) h w on
+    ∙ packed-low (λ k. f (s + k)) w (16 - s) (omega arith) ∙ packed-same (λ k. f (s + k)) g w on
 
 packed-front : (f : ℕ → Bool) (k n : ℕ) → bit (f k) + 2 * packed (λ i. f (suc k + i)) n ≡ packed (λ i. f (k + i)) (suc n)
 unfolding packed

@@ -1,22 +1,21 @@
--- `rows::pack::eight_down` meets its contract. Assumes nothing.
-use mathlib.Core.Bool.{true}
+-- `rows::pack::word_down` meets its contract. Assumes nothing.
+use Prim.Native.Nat.{_-_}
 use native.Mathlib.Nat.{sub-zero}
-use native.Mathlib.Omega.{arith}
 use borrow.Author.Needs.{needs}
 use lib.ListN.{getD}
 use denote.Ref.{now}
-use Rattle.rows.specs.Row.{bitAt, says}
-use Rattle.rows.proofs.Packs.{eight-is}
-use Rattle.rows.proofs.pack.eight_down.Statement.{statement}
-use Rattle.rows.proofs.pack.eight_down.Tie as tie
+use Rattle.rows.proofs.Sixteen.{eight-are}
+use Rattle.rows.proofs.pack.word_down.Statement.{statement}
+use Rattle.rows.proofs.pack.word_down.Tie as tie
 
 returns : tie.Need-returns
-returns c =
+returns c k j hk hj =
     let a = c .before .before .before .before .before .before .before .before .before .before .args in
-    (omega arith, rw (c .eight .ensures .1) (eight-is (says (now (a .cells)) (a .j) true (a .from)) (bitAt (getD (now (a .cells)) (a .from) 0) (a .j)) (rw sub-zero)))
+    let cells = now (a .cells) in
+    rw (c .word .ensures k j hj, eight-are (λ i. getD cells (a .from - i) 0) (getD cells (a .from) 0) (rw sub-zero) k hk)
 
-pub eight-down-spec : {M : Type 1} → statement M
-eight-down-spec =
+pub word-down-spec : {M : Type 1} → statement M
+word-down-spec =
     tie.close (tie.spec (λ c. search needs) (λ c. search needs) (λ c. search needs) (λ c. search needs) (λ c. search needs) (λ c. search needs)
     (λ c. search needs) (λ c. search needs) (λ c. search needs) (λ c. search needs) (λ c. search needs) (λ c. search needs) (λ c. search needs)
     (λ c. search needs) (λ c. search needs) (λ c κs. search needs) returns)
