@@ -1,9 +1,9 @@
-//! Each call on maps, states and files: the library beside plain Rust.
+//! Each call on maps, states and files: the library beside plain Rust; marks and routes beside plain Rust or bit rows.
 use crate::inputs::{corners, maps, near, neighbour, settled, Cube, Pair};
 use crate::timing::{Case, Fields, Row};
 use dukthari::answers::{Counted, Done};
 use dukthari::{calls, Component};
-use plain::Refused;
+use plain::{Refused, Verdict};
 use std::time::Instant;
 
 /// In a hundred nodes so many are faulty: all of these on the largest mesh, and one density on smaller ones, to see how cost grows.
@@ -15,15 +15,15 @@ fn densities(cube: Cube) -> &'static [usize] {
     }
 }
 
-fn done(a: Done) -> Fields {
+pub fn done(a: Done) -> Fields {
     [a.refusal, a.bad, 0, 0, 0]
 }
 
-fn counted(a: Counted) -> Fields {
+pub fn counted(a: Counted) -> Fields {
     [a.refusal, a.bad, a.count, 0, 0]
 }
 
-/// The fields of plain Rust's answer, from its value's.
+/// The fields of the other side's answer, from its value's.
 pub fn fields<T>(answer: Result<T, Refused>, value: impl Fn(T) -> [u32; 3]) -> Fields {
     match answer {
         Ok(granted) => {
@@ -34,15 +34,15 @@ pub fn fields<T>(answer: Result<T, Refused>, value: impl Fn(T) -> [u32; 3]) -> F
     }
 }
 
-fn nothing(_: ()) -> [u32; 3] {
+pub fn nothing(_: ()) -> [u32; 3] {
     [0; 3]
 }
 
-fn count(n: usize) -> [u32; 3] {
+pub fn count(n: usize) -> [u32; 3] {
     [n as u32, 0, 0]
 }
 
-pub fn marks(cube: Cube, rows: &mut Vec<Row>) {
+pub fn marks(cube: Cube, theirs: impl Fn([u32; 3], u32, &[u8], &mut [u8]) -> Result<(), Refused>, rows: &mut Vec<Row>) {
     for &percent in densities(cube) {
         let maps = maps(cube, percent, 16);
         let input = |i: usize| (i as u32 % 8, &maps[i / 8][..]);
@@ -50,9 +50,9 @@ pub fn marks(cube: Cube, rows: &mut Vec<Row>) {
             let (orientation, cells) = input(i);
             done(calls::marks(cube.sizes(), orientation, cells, out))
         };
-        let plain = |i: usize, out: &mut Vec<u8>| {
+        let other = |i: usize, out: &mut Vec<u8>| {
             let (orientation, cells) = input(i);
-            fields(plain::marks(cube.size(), orientation, cells, out), nothing)
+            fields(theirs(cube.size(), orientation, cells, out), nothing)
         };
         rows.push(
             Case {
@@ -61,7 +61,7 @@ pub fn marks(cube: Cube, rows: &mut Vec<Row>) {
                 input: format!("{percent} %"),
                 inputs: 128,
                 library: &library,
-                plain: &plain,
+                other: &other,
                 same: |a, b| a == b,
             }
             .run(vec![9; cube.nodes()], vec![9; cube.nodes()]),
@@ -86,7 +86,7 @@ pub fn components(cube: Cube, rows: &mut Vec<Row>) {
             t == u && r.iter().zip(s).all(equal)
         };
         rows.push(
-            Case { cube, call: "dk_components", input: format!("{percent} %"), inputs: 128, library: &library, plain: &plain, same }.run(
+            Case { cube, call: "dk_components", input: format!("{percent} %"), inputs: 128, library: &library, other: &plain, same }.run(
                 (vec![9; cube.nodes()], vec![Component::default(); cube.nodes()]),
                 (vec![9; cube.nodes()], vec![plain::Component::default(); cube.nodes()]),
             ),
@@ -106,53 +106,53 @@ fn pairs(cube: Cube) -> Vec<(String, Vec<Pair>)> {
     all
 }
 
-pub fn verdict(cube: Cube, rows: &mut Vec<Row>) {
+pub fn verdict(cube: Cube, theirs: impl Fn([u32; 3], u32, u32, &[u8]) -> Result<Verdict, Refused>, rows: &mut Vec<Row>) {
     for (input, pairs) in pairs(cube) {
         let library = |i: usize, (): &mut ()| {
             let p = &pairs[i];
             let a = calls::verdict(cube.sizes(), p.start, p.end, &p.cells);
             [a.refusal, a.bad, a.hops, a.offered, 0]
         };
-        let plain = |i: usize, (): &mut ()| {
+        let other = |i: usize, (): &mut ()| {
             let p = &pairs[i];
-            fields(plain::verdict(cube.size(), p.start, p.end, &p.cells), |v| [v.hops, v.offered, 0])
+            fields(theirs(cube.size(), p.start, p.end, &p.cells), |v| [v.hops, v.offered, 0])
         };
         rows.push(
-            Case { cube, call: "dk_verdict", input, inputs: pairs.len(), library: &library, plain: &plain, same: |(), ()| true }
+            Case { cube, call: "dk_verdict", input, inputs: pairs.len(), library: &library, other: &other, same: |(), ()| true }
                 .run((), ()),
         );
     }
 }
 
-pub fn route(cube: Cube, rows: &mut Vec<Row>) {
+pub fn route(cube: Cube, theirs: impl Fn([u32; 3], u32, u32, &[u8], &mut [u16]) -> Result<usize, Refused>, rows: &mut Vec<Row>) {
     for (input, pairs) in pairs(cube) {
         let library = |i: usize, out: &mut Vec<u16>| {
             let p = &pairs[i];
             counted(calls::route(cube.sizes(), p.start, p.end, &p.cells, out))
         };
-        let plain = |i: usize, out: &mut Vec<u16>| {
+        let other = |i: usize, out: &mut Vec<u16>| {
             let p = &pairs[i];
-            fields(plain::route(cube.size(), p.start, p.end, &p.cells, out), count)
+            fields(theirs(cube.size(), p.start, p.end, &p.cells, out), count)
         };
         rows.push(
-            Case { cube, call: "dk_route", input, inputs: pairs.len(), library: &library, plain: &plain, same: |a, b| a == b }
+            Case { cube, call: "dk_route", input, inputs: pairs.len(), library: &library, other: &other, same: |a, b| a == b }
                 .run(vec![9; 46], vec![9; 46]),
         );
     }
 }
 
-pub fn reached(cube: Cube, rows: &mut Vec<Row>) {
+pub fn reached(cube: Cube, theirs: impl Fn([u32; 3], u32, u32, &[u8], &mut [u8]) -> Result<usize, Refused>, rows: &mut Vec<Row>) {
     for (input, pairs) in pairs(cube) {
         let library = |i: usize, out: &mut Vec<u8>| {
             let p = &pairs[i];
             counted(calls::reached(cube.sizes(), p.start, p.end, &p.cells, out))
         };
-        let plain = |i: usize, out: &mut Vec<u8>| {
+        let other = |i: usize, out: &mut Vec<u8>| {
             let p = &pairs[i];
-            fields(plain::reached(cube.size(), p.start, p.end, &p.cells, out), count)
+            fields(theirs(cube.size(), p.start, p.end, &p.cells, out), count)
         };
         rows.push(
-            Case { cube, call: "dk_reached", input, inputs: pairs.len(), library: &library, plain: &plain, same: |a, b| a == b }
+            Case { cube, call: "dk_reached", input, inputs: pairs.len(), library: &library, other: &other, same: |a, b| a == b }
                 .run(vec![9; cube.nodes()], vec![9; cube.nodes()]),
         );
     }
@@ -170,7 +170,7 @@ pub fn fresh(cube: Cube, rows: &mut Vec<Row>) {
                 input: format!("{percent} %"),
                 inputs: 16,
                 library: &library,
-                plain: &plain,
+                other: &plain,
                 same: |a, b| a == b,
             }
             .run(vec![9; 7 * cube.nodes()], vec![9; 7 * cube.nodes()]),
@@ -184,7 +184,7 @@ pub fn sound(cube: Cube, rows: &mut Vec<Row>) {
         let library = |_: usize, (): &mut ()| done(calls::sound(cube.sizes(), s.orientation, &s.state));
         let plain = |_: usize, (): &mut ()| fields(plain::sound(cube.size(), s.orientation, &s.state), nothing);
         let input = format!("{percent} %, settled");
-        rows.push(Case { cube, call: "dk_sound", input, inputs: 1, library: &library, plain: &plain, same: |(), ()| true }.run((), ()));
+        rows.push(Case { cube, call: "dk_sound", input, inputs: 1, library: &library, other: &plain, same: |(), ()| true }.run((), ()));
     }
 }
 
@@ -195,7 +195,7 @@ pub fn outstanding(cube: Cube, rows: &mut Vec<Row>) {
         let plain = |_: usize, (): &mut ()| fields(plain::outstanding(cube.size(), s.orientation, &s.state), count);
         let input = format!("{percent} %, settled");
         rows.push(
-            Case { cube, call: "dk_outstanding", input, inputs: 1, library: &library, plain: &plain, same: |(), ()| true }.run((), ()),
+            Case { cube, call: "dk_outstanding", input, inputs: 1, library: &library, other: &plain, same: |(), ()| true }.run((), ()),
         );
     }
 }
@@ -214,7 +214,7 @@ pub fn hear(cube: Cube, rows: &mut Vec<Row>) {
         };
         let input = format!("{percent} %, settled");
         rows.push(
-            Case { cube, call: "dk_hear", input, inputs: 64, library: &library, plain: &plain, same: |a, b| a == b }
+            Case { cube, call: "dk_hear", input, inputs: 64, library: &library, other: &plain, same: |a, b| a == b }
                 .run(s.state.clone(), s.state.clone()),
         );
     }
@@ -234,7 +234,7 @@ pub fn read_map(cube: Cube, rows: &mut Vec<Row>) {
             input: format!("{} bytes", cube.nodes() + 12),
             inputs: 16,
             library: &library,
-            plain: &plain,
+            other: &plain,
             same: |a, b| a == b,
         }
         .run(vec![9; cube.nodes()], vec![9; cube.nodes()]),
@@ -258,7 +258,7 @@ pub fn write_map(cube: Cube, rows: &mut Vec<Row>) {
             input: format!("{} bytes", cube.nodes() + 12),
             inputs: 16,
             library: &library,
-            plain: &plain,
+            other: &plain,
             same: |a, b| a == b,
         }
         .run(vec![9; cube.nodes() + 12], vec![9; cube.nodes() + 12]),

@@ -14,7 +14,7 @@ pub fn number(cube: Cube, rows: &mut Vec<Row>) {
     let plain = |i: usize, (): &mut ()| fields(plain::number(cube.size(), places[i]), |node| [node, 0, 0]);
     let input = "every place".to_string();
     rows.push(
-        Case { cube, call: "dk_number", input, inputs: cube.nodes(), library: &library, plain: &plain, same: |(), ()| true }.run((), ()),
+        Case { cube, call: "dk_number", input, inputs: cube.nodes(), library: &library, other: &plain, same: |(), ()| true }.run((), ()),
     );
 }
 
@@ -26,7 +26,7 @@ pub fn place(cube: Cube, rows: &mut Vec<Row>) {
     let plain = |i: usize, (): &mut ()| fields(plain::place(cube.size(), i as u32), |place| place);
     let input = "every node".to_string();
     rows.push(
-        Case { cube, call: "dk_place", input, inputs: cube.nodes(), library: &library, plain: &plain, same: |(), ()| true }.run((), ()),
+        Case { cube, call: "dk_place", input, inputs: cube.nodes(), library: &library, other: &plain, same: |(), ()| true }.run((), ()),
     );
 }
 
@@ -47,6 +47,6 @@ pub fn step(cube: Cube, rows: &mut Vec<Row>) {
     };
     let input = "every place and direction".to_string();
     rows.push(
-        Case { cube, call: "dk_step", input, inputs: steps.len(), library: &library, plain: &plain, same: |(), ()| true }.run((), ()),
+        Case { cube, call: "dk_step", input, inputs: steps.len(), library: &library, other: &plain, same: |(), ()| true }.run((), ()),
     );
 }
