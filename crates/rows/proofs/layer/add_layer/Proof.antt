@@ -1,6 +1,6 @@
 -- `rows::layer::add_layer` meets its contract: row after row. Assumes nothing.
 use mathlib.Core.Path.{subst}
-use Prim.Native.Nat.{_+_, _-_, _≤_}
+use Prim.Native.Nat.{_-_, _≤_}
 use native.Mathlib.Omega.{arith}
 use borrow.Author.Needs.{needs}
 use denote.Ref.{now}
