@@ -1,2 +1,4 @@
-pub mod Clear
+pub mod Rows
+pub mod Stretches
+pub mod Added
 pub mod Written

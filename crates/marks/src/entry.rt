@@ -1,7 +1,7 @@
 // The call for the marks of a map. It takes every input.
-use crate::sweep::blank_marks;
+use crate::bytes::clear;
+use crate::bytes::finish;
 use crate::sweep::sweep;
-use layers::join::join;
 use maps::check_map;
 use mesh::Answer;
 use mesh::Refusal;
@@ -10,7 +10,7 @@ ghost use mathlib.Core.Path.{_≡_};
 ghost use Prim.Native.Nat.{_≤_};
 ghost use lib.ListN.{length};
 ghost use Rattle.rules.specs.Entry.{marksAnswer, marksWritten, marksOut};
-ghost use Rattle.layers.specs.Sweep.{Room};
+ghost use Rattle.marks.specs.Sweep.{Room};
 
 // Refusals 1, 2, 4, 5 and 3.
 fn marks_answer(s: Sizes, cells: &[u8], orientation: usize, room: usize) -> Answer
@@ -29,16 +29,16 @@ fn marks_answer(s: Sizes, cells: &[u8], orientation: usize, room: usize) -> Answ
     Answer::Done
 }
 
-// The marks of a map that is in order.
+// The marks of a map that is in order: useless is stuck in orientation o, can't-reach in the reversed one.
 fn mark_all(s: Sizes, cells: &[u8], o: usize, out: &mut [u8])
     requires { ⌜ Room s (now cells) (now out) × (o ≤ 7) ⌝ }
     ensures { λ _. ⌜ now (out .exit) ≡ marksWritten s (now (cells .entry)) o (now (out .entry)) ⌝ }
 {
-    let mut behind = blank_marks();
-    let reversed = 7 - o;
-    sweep(s, cells, out, o);
-    sweep(s, cells, &mut behind, reversed);
-    join(cells, &behind, out, s.nodes());
+    let n = s.nodes();
+    clear(out, n);
+    sweep(s, cells, o, 2, out);
+    sweep(s, cells, 7 - o, 4, out);
+    finish(cells, out, n);
 }
 
 // The mark bytes of the map, in node order, at the front of out.

@@ -1,4 +1,6 @@
-// The marks of a map. Its specs/ have the call's equations; it needs no type of its own.
+// The marks of a map. Its specs/ say how it is swept; it needs no type of its own.
 
+pub mod blocked;
+pub mod bytes;
 pub mod entry;
 pub mod sweep;

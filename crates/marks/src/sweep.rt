@@ -1,22 +1,19 @@
-// The sweep: which nodes are shut, that is faulty or stuck, layer by layer from the end ahead.
-use layers::layer::ahead_z;
-use layers::layer::coordinate;
-use layers::layer::rows;
-use maps::faulty_bit;
-use mesh::Place;
+// The sweep for one mark: which nodes are shut, that is faulty or stuck, layer by layer from the corner ahead. It counts in steps from there, so
+// that all orientations are one case. Bit a of row b is 1 if the node a and b steps on is shut; each layer goes over the one before, in sixteen numbers.
+use crate::blocked::any_blocked;
 use mesh::Sizes;
+use rows::Between;
+use rows::Run;
+use rows::layer::add_layer;
+use rows::layer::faulty_row;
+use rows::sweep_row;
 ghost use mathlib.Core.Path.{_≡_};
-ghost use mathlib.Core.Bool.{false};
-ghost use mathlib.Core.List.{List};
-ghost use Prim.Native.Nat.{ℕ, _+_, _*_, _≤_, _<_};
+ghost use Prim.Native.Nat.{ℕ, _+_, _≤_, _<_};
 ghost use lib.ListN.{length, getD, replicate};
-ghost use lib.Dec.{leb};
-ghost use Rattle.mesh.specs.Tools.{bit};
 ghost use Rattle.mesh.specs.Mesh.{InRange, nodes};
-ghost use Rattle.mesh.specs.Cells.{mapOf, faultyCell};
-ghost use Rattle.mesh.specs.Fill.{Filled};
-ghost use Rattle.layers.specs.Sweep.{Swept, Stretch, Room};
-ghost use Rattle.marks.specs.Clear.{inner, Apart};
+ghost use Rattle.mesh.specs.Cells.{mapOf};
+ghost use Rattle.rows.specs.Box.{Good, Ready};
+ghost use Rattle.marks.specs.Sweep.{axis, whole, beyond, Over, Room, Swept};
 
 // A byte for each node of the largest mesh.
 pub fn blank_marks() -> [u8; 4096]
@@ -25,77 +22,78 @@ pub fn blank_marks() -> [u8; 4096]
     [0; 4096]
 }
 
-// Each node's byte: 1 where it is faulty, else 0.
-fn lay(cells: &[u8], out: &mut [u8], n: usize)
-    requires { ⌜ (n ≤ length (now cells)) × (n ≤ length (now out)) ⌝ }
-    ensures { λ _. ⌜ Filled (λ i. i) (λ i. bit (faultyCell (getD (now (cells .entry)) i 0))) (now (out .entry)) (now (out .exit)) n ⌝ }
+// An axis of n from its end ahead, where it runs down or up.
+fn axis(down: bool, n: usize) -> Run
+    requires { ⌜ 0 < n ⌝ }
+    ensures { λ r. ⌜ r ≡ axis down n ⌝ }
 {
-    for i in 0..n {
-        out[i] = faulty_bit(cells[i]);
+    let steps = n - 1;
+    if down {
+        return Run {
+            from: 0,
+            steps,
+            down: false,
+        };
+    }
+    Run {
+        from: steps,
+        steps,
+        down: true,
     }
 }
 
-// Do three stretches of n bytes, at p, q and r, hold a 1 at the same place? No branch and no way out: all are looked at, many at a time.
-fn meet(out: &[u8], n: usize, p: usize, q: usize, r: usize) -> bool
-    requires { ⌜ (p + n ≤ length (now out)) × (q + n ≤ length (now out)) × (r + n ≤ length (now out)) ⌝ }
-    ensures { λ t. ⌜ (t ≡ false → Apart (now (out .entry)) p q r n) ⌝ }
-{
-    let mut met = 0u8;
-    for i in 0..n {
-        met = (out[p + i] & out[q + i] & out[r + i]) | met;
-    }
-    met != 0
-}
-
-// How many nodes of a layer there are from the first to the last that has neighbours ahead on X and Y.
-fn inner(s: Sizes) -> usize
+// All nodes, from the corner ahead.
+fn whole(s: Sizes, o: usize) -> Between
     requires { ⌜ InRange s ⌝ }
-    ensures { λ r. ⌜ r ≡ inner s ⌝ }
+    ensures { λ r. ⌜ r ≡ whole s o ⌝ }
 {
-    s.w * s.h - s.w - 1
+    Between {
+        x: axis(o % 2 == 1, s.w),
+        y: axis(o / 2 % 2 == 1, s.h),
+        z: axis(o / 4 % 2 == 1, s.d),
+    }
 }
 
-// Has the layer with c steps left a node with faulty ones ahead on X and Y and a shut one on Z? If not, none of its nodes is stuck.
-fn any_blocked(s: Sizes, out: &[u8], o: usize, c: usize) -> bool
-    requires { ⌜ InRange s × (nodes s ≤ length (now out)) × (c < s .d) ⌝ }
-    ensures { λ t. ⌜ (t ≡ false → (cells : List ℕ) → (c ≡ 0 → s .d < 2)
-        → Swept (mapOf s cells) o (s .h * c) (now (out .entry)) → Swept (mapOf s cells) o (s .h * (c + 1)) (now (out .entry))) ⌝ }
+// Layer c, over the layer before it.
+fn over(s: Sizes, cells: &[u8], g: Between, c: usize, rows: &mut [u16])
+    requires { ⌜ Ready s (now cells) g × Good s (now cells) × (length (now rows) ≡ 16) × (c ≤ g .z .steps) ⌝ }
+    ensures { λ _. ⌜ Over (mapOf s (now (cells .entry))) g c (now (rows .entry)) (now (rows .exit)) (g .y .steps + 1) ⌝ }
 {
-    let x = o % 2;
-    let y = o / 2 % 2;
-    let z = coordinate(o / 4 % 2 == 1, s.d, c);
-    let p = s.number(Place { x: 1 - x, y, z });
-    let q = s.number(Place { x, y: 1 - y, z });
-    let r = ahead_z(s, x, y, o, c, q);
-    meet(out, inner(s), p, q, r)
+    let n = g.y.steps + 1;
+    let mut last: u16 = 0;
+    let mut b = 0;
+    while b < n {
+        let faulty = faulty_row(s, cells, g, b, c);
+        let may = faulty | (last & rows[b]);
+        last = sweep_row(may, faulty, may);
+        rows[b] = last;
+        b += 1;
+    }
 }
 
-// The layer with c steps left.
-fn layer(s: Sizes, cells: &[u8], out: &mut [u8], o: usize, c: usize)
-    requires { ⌜ Room s (now cells) (now out) × (c < s .d) × (c ≡ 0 → s .d < 2) × Swept (mapOf s (now cells)) o (s .h * c) (now out) ⌝ }
-    ensures { λ _. ⌜ Stretch (mapOf s (now (cells .entry))) o (s .h * (c + 1)) (now (out .entry)) (now (out .exit)) ⌝ }
+// The rows before the first layer: beyond the edge nothing is shut, and where Z does not count nothing is asked of it.
+fn beyond(s: Sizes) -> [u16; 16]
+    ensures { λ r. ⌜ r ≡ beyond s ⌝ }
 {
-    if !any_blocked(s, out, o, c) {
+    if s.d < 2 {
+        return [65535; 16];
+    }
+    [0; 16]
+}
+
+// Adds v to the byte of each working node that is stuck in orientation o.
+pub(crate) fn sweep(s: Sizes, cells: &[u8], o: usize, v: u8, out: &mut [u8])
+    requires { ⌜ Room s (now cells) (now out) × ((k : ℕ) → k < nodes s → getD (now out) k 0 + v ≤ 255) ⌝ }
+    ensures { λ _. ⌜ Swept (mapOf s (now (cells .entry))) o v (now (out .entry)) (now (out .exit)) ⌝ }
+{
+    if !any_blocked(s, cells, o) {
         return;
     }
-    rows(s, cells, out, o, c);
-}
-
-// How many layers have the edge ahead of them, which blocks nothing: the first, if Z counts.
-fn edge_layers(d: usize) -> usize
-    ensures { λ r. ⌜ r ≡ bit (leb 2 d) ⌝ }
-{
-    if d < 2 { 0 } else { 1 }
-}
-
-// Each node's byte: 1 where it is shut in orientation o, else 0.
-pub(crate) fn sweep(s: Sizes, cells: &[u8], out: &mut [u8], o: usize)
-    requires { ⌜ Room s (now cells) (now out) ⌝ }
-    ensures { λ _. ⌜ Stretch (mapOf s (now (cells .entry))) o (s .h * s .d) (now (out .entry)) (now (out .exit)) ⌝ }
-{
-    lay(cells, out, s.nodes());
+    let g = whole(s, o);
+    let mut rows = beyond(s);
     let d = s.d;
-    for c in edge_layers(d)..d {
-        layer(s, cells, out, o, c);
+    for c in 0..d {
+        over(s, cells, g, c, &mut rows);
+        add_layer(s, g, c, &rows, v, out);
     }
 }

@@ -27,7 +27,7 @@ mark-all-requires c κs =
     let t = c .before in
     let a = t .before .before .before .before .before .args in
     let g = marks-granted (a .s) (now (a .cells)) (a .orientation) (length (now (a .out))) (in-order t) in
-    (record { sized = g .map .sized; cells-long = g .map .whole; out-long = g .fits }, g .orientation)
+    (record { sized = g .map .sized; whole = g .map .whole; good = g .map .good; fits = g .fits }, g .orientation)
 
 returns-2 : tie.Need-returns-2
 returns-2 c =

@@ -1,4 +1,0 @@
-pub mod Turns
-pub mod Rows
-pub mod Layers
-pub mod Once

@@ -1,2 +1,0 @@
-pub mod Sweep
-pub mod Join
