@@ -20,7 +20,7 @@ use Rattle.rows.specs.Row.{bitAt, swept, packed}
 use Rattle.rows.proofs.Bits.{at-or}
 use Rattle.rows.proofs.Packs.{at-packed, at-none, packed-not}
 use Rattle.rows.specs.Box.{reach, far}
-use Rattle.sweeps.specs.Sweep.{Seen, prior, Holds, rowBefore, Over, Layers, seed, seenAt, waysOf}
+use Rattle.sweeps.specs.Sweep.{Seen, prior, Holds, rowBefore, Over, Layers, After, seed, seenAt, waysOf}
 use Rattle.sweeps.proofs.Layers.{next-seen}
 use Rattle.sweeps.specs.declared.Ways.{Ways}
 use Rattle.rows.specs.declared.Between.{Between}
@@ -187,7 +187,7 @@ rows-more m g i j n old mid new L K = record { holds = λ seen Q H. K .holds see
 
 -- ---- before the first layer, and after the last
 
-pub seed-rows : (g : Between) (seen : Place → Bool) → g .y .steps < 16 → Holds g (prior seen 0) seed
+seed-rows : (g : Between) (seen : Place → Bool) → g .y .steps < 16 → Holds g (prior seen 0) seed
 unfolding bitAt
 seed-rows g seen h zero zero la lb = one-at
 seed-rows g seen h (suc a) zero la lb = at-none a ∙ rw (ne-eqb (suc a) 0 (λ e. omega arith))
@@ -198,6 +198,10 @@ seed-rows g seen h a (suc b) la lb =
     none : (t : Bool) → false ≡ t && false
     none true = refl
     none false = refl
+
+-- n layers from there on
+pub after-seed : (m : Map) (g : Between) (n : ℕ) (rows : List ℕ) → g .y .steps < 16 → Layers m g 0 n seed rows → After m g n rows
+after-seed m g n rows h L seen Q = L .holds seen Q (seed-rows g seen h)
 
 pub rows-ways : (g : Between) (seen : Place → Bool) (old new : List ℕ) → Holds g (prior seen (g .z .steps)) old → Holds g (prior seen (g .z .steps + 1)) new
     → let a = g .x .steps in let b = g .y .steps in let c = g .z .steps in

@@ -15,7 +15,7 @@ use Rattle.mesh.specs.declared.Place.{Place}
 use Rattle.rows.specs.Row.{bitAt}
 use Rattle.paths.specs.declared.Wanted.{Wanted}
 use Rattle.paths.specs.declared.Wanted.the-variants.{Way, Level}
-use Rattle.rows.specs.Box.{gone, reach, Within, OnAxis, Held, spot, Good, Room}
+use Rattle.rows.specs.Box.{gone, reach, far, Within, OnAxis, Held, spot, Good, Room}
 use Rattle.sweeps.specs.declared.Ways.{Ways}
 use Rattle.rows.specs.declared.Run.{Run}
 use Rattle.rows.specs.declared.Between.{Between}
@@ -158,10 +158,19 @@ pub record Layers (m : Map) (g : Between) (i n : ℕ) (old new : List ℕ) : Typ
   pub holds : (seen : Place → Bool) → Seen m g seen → Holds g (prior seen i) old → Holds g (prior seen n) new
   pub size : length new ≡ length old
 
+-- the rows after n layers: what is seen in the last of them, whatever is seen
+abbrev pub After : Map → Between → ℕ → List ℕ → Type 0
+After m g n rows = (seen : Place → Bool) → Seen m g seen → Holds g (prior seen n) rows
+
+-- the last layer over the one before it, and the ways into the far corner
+pub record Last (m : Map) (g : Between) (old new : List ℕ) (w : Ways) : Type 0 where
+  pub layer : Layers m g (g .z .steps) (g .z .steps + 1) old new
+  pub ways : (seen : Place → Bool) → Seen m g seen → Holds g (prior seen (g .z .steps)) old → w ≡ waysOf seen (far g)
+
 -- the rows before the first layer: only the corner is seen
 abbrev pub seed : List ℕ
 seed = set (replicate 16 0) 0 1
 
--- the bit of the node x and y steps nearer to the corner than the one a and b steps away, if a step is left
+-- bit a of row b, or that of the node x steps nearer to the corner, y rows back, if a step is left
 abbrev pub seenAt : List ℕ → ℕ → ℕ → ℕ → ℕ → ℕ → Bool
 seenAt rows left a x b y = ltb 0 left && bitAt (getD rows (b - y) 0) (a - x)

@@ -1,4 +1,5 @@
 // The sweep by rows: bit a of row b is 1 if the node a and b steps away is seen. Each layer goes over the one before, in sixteen numbers.
+use crate::Ways;
 use mesh::Sizes;
 use rows::Between;
 use rows::full;
@@ -12,7 +13,7 @@ ghost use Rattle.mesh.specs.Mesh.{place};
 ghost use Rattle.mesh.specs.Cells.{mapOf, cellAt, mayPass};
 ghost use Rattle.rows.specs.Row.{bitAt};
 ghost use Rattle.rows.specs.Box.{reach, Good, Ready};
-ghost use Rattle.sweeps.specs.Sweep.{Layers, seed, seenAt};
+ghost use Rattle.sweeps.specs.Sweep.{Layers, Last, seed, seenAt};
 
 // The nodes of row b of layer c that may be passed.
 fn pass_row(s: Sizes, cells: &[u8], g: Between, b: usize, c: usize) -> u16
@@ -23,7 +24,7 @@ fn pass_row(s: Sizes, cells: &[u8], g: Between, b: usize, c: usize) -> u16
 }
 
 // Layer c, over the layer before it. The corner is seen by itself, whether or not it may be passed.
-pub(crate) fn over(s: Sizes, cells: &[u8], g: Between, c: usize, rows: &mut [u16])
+pub fn over(s: Sizes, cells: &[u8], g: Between, c: usize, rows: &mut [u16])
     requires { ⌜ Ready s (now cells) g × Good s (now cells) × (length (now rows) ≡ 16) × (c ≤ g .z .steps) ⌝ }
     ensures { λ _. ⌜ Layers (mapOf s (now (cells .entry))) g c (c + 1) (now (rows .entry)) (now (rows .exit)) ⌝ }
 {
@@ -53,7 +54,7 @@ pub(crate) fn sweep(s: Sizes, cells: &[u8], g: Between, n: usize, rows: &mut [u1
 }
 
 // What there is before the first layer: only the corner is seen.
-pub(crate) fn seeded() -> [u16; 16]
+pub fn seeded() -> [u16; 16]
     ensures { λ r. ⌜ r ≡ seed ⌝ }
 {
     let mut rows = [0u16; 16];
@@ -61,13 +62,30 @@ pub(crate) fn seeded() -> [u16; 16]
     rows
 }
 
-// The bit of the node x and y steps nearer to the corner than the one a and b steps away; 0 if no step is left.
-pub(crate) fn seen_at(rows: &[u16], left: usize, a: usize, x: usize, b: usize, y: usize) -> u8
-    requires { ⌜ (length (now rows) ≡ 16) × (a < 16) × (b < 16) × (0 < left → (x ≤ a) × (y ≤ b)) ⌝ }
+// Bit a of row b, or that of the node x steps nearer to the corner, y rows back; 0 if no step is left.
+pub fn seen_at(rows: &[u16], left: usize, a: usize, x: usize, b: usize, y: usize) -> u8
+    requires { ⌜ (a < 16) × (b < length (now rows)) × (0 < left → (x ≤ a) × (y ≤ b)) ⌝ }
     ensures { λ r. ⌜ r ≡ bit (seenAt (now (rows .entry)) left a x b y) ⌝ }
 {
     if left == 0 {
         return 0;
     }
     ((rows[b - y] >> (a - x)) % 2) as u8
+}
+
+// The last layer, over the one before it, and the ways into the far corner. The layer before is read where the last one goes over it.
+pub fn last_layer(s: Sizes, cells: &[u8], g: Between, rows: &mut [u16]) -> Ways
+    requires { ⌜ Ready s (now cells) g × Good s (now cells) × (length (now rows) ≡ 16) ⌝ }
+    ensures { λ r. ⌜ Last (mapOf s (now (cells .entry))) g (now (rows .entry)) (now (rows .exit)) r ⌝ }
+{
+    let a = g.x.steps;
+    let b = g.y.steps;
+    let c = g.z.steps;
+    let z = seen_at(rows, c, a, 0, b, 0);
+    over(s, cells, g, c, rows);
+    Ways {
+        x: seen_at(rows, a, a, 1, b, 0),
+        y: seen_at(rows, b, a, 0, b, 1),
+        z,
+    }
 }

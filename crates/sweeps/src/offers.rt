@@ -1,8 +1,7 @@
 // The offered set at the start of a route, from a sweep that begins at its end.
 use crate::Ways;
-use crate::bits::over;
+use crate::bits::last_layer;
 use crate::bits::seeded;
-use crate::bits::seen_at;
 use crate::bits::sweep;
 use crate::boxes::between;
 use crate::signed::difference;
@@ -22,23 +21,14 @@ ghost use Rattle.paths.specs.Offered.{offered};
 ghost use Rattle.rows.specs.Box.{far, Good, Ready};
 ghost use Rattle.sweeps.specs.Sweep.{Ends, WaysTo, flagOf};
 
-// The ways into the far corner of a box. The layer before the last is read where the last one goes over it.
+// The ways into the far corner of a box.
 fn ways(s: Sizes, cells: &[u8], g: Between) -> Ways
     requires { ⌜ Ready s (now cells) g × Good s (now cells) ⌝ }
     ensures { λ r. ⌜ WaysTo (mapOf s (now (cells .entry))) g (far g) r ⌝ }
 {
-    let a = g.x.steps;
-    let b = g.y.steps;
-    let c = g.z.steps;
     let mut rows = seeded();
-    sweep(s, cells, g, c, &mut rows);
-    let z = seen_at(&rows, c, a, 0, b, 0);
-    over(s, cells, g, c, &mut rows);
-    Ways {
-        x: seen_at(&rows, a, a, 1, b, 0),
-        y: seen_at(&rows, b, a, 0, b, 1),
-        z,
-    }
+    sweep(s, cells, g, g.z.steps, &mut rows);
+    last_layer(s, cells, g, &mut rows)
 }
 
 // Does a path lead between two corners, h hops apart, with these ways into the second?

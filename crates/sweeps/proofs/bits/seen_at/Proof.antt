@@ -13,10 +13,10 @@ returns : tie.Need-returns
 returns c = rw (le-ltb 0 (c .before .args .left) (omega arith))
 
 sub-result : tie.Need-sub-result
-sub-result c = c .before .pre .3 (omega arith) .1
+sub-result c = c .before .pre .2 (omega arith) .1
 
 sub-result-2 : tie.Need-sub-result-2
-sub-result-2 c = c .before .before .pre .3 (omega arith) .0
+sub-result-2 c = c .before .before .pre .2 (omega arith) .0
 
 returns-2 : tie.Need-returns-2
 returns-2 c =

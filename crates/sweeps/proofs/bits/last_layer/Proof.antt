@@ -1,0 +1,51 @@
+-- `sweeps::bits::last_layer` meets its contract: the rows before it give the way on Z, its own those on X and Y (`rows-ways`). Assumes nothing.
+use mathlib.Core.Path.{_≡_, _∙_}
+use native.Mathlib.Omega.{arith}
+use borrow.Author.Needs.{needs}
+use lib.ListN.{length}
+use denote.Ref.{now}
+use Rattle.mesh.specs.Mesh.{Inside}
+use Rattle.rows.specs.Box.{largest, far}
+use Rattle.rows.proofs.Box.{far-in}
+use Rattle.sweeps.proofs.RowSweep.{rows-ways}
+use Rattle.sweeps.proofs.bits.last_layer.Statement.{statement}
+use Rattle.sweeps.proofs.bits.last_layer.Tie as tie
+
+small : (c : tie.Start) → Inside largest (far (c .args .g))
+small c = let r = c .pre .0 in far-in (c .args .s) (c .args .g) (r .sized) (r .held)
+
+-- still sixteen rows
+long : (c : tie.After-over) → length (c .over .last .1 .1 .1 .1 .0) ≡ 16
+long c = c .over .ensures .size ∙ c .before .before .before .before .before .before .pre .2
+
+seen-at-requires : tie.Need-seen-at-requires
+seen-at-requires c κs =
+    let s = c .before .before .before in
+    let t = small s in
+    (omega arith, omega (arith, s .pre .2), λ h. (omega arith, omega arith))
+
+seen-at-requires-2 : tie.Need-seen-at-requires-2
+seen-at-requires-2 c κs =
+    let t = small (c .before .before .before .before .before .before .before .before .before) in
+    (omega arith, omega (arith, long (c .before .before .before)), λ h. (omega arith, omega arith))
+
+seen-at-requires-3 : tie.Need-seen-at-requires-3
+seen-at-requires-3 c κs =
+    let t = small (c .before .before .before .before .before .before .before .before .before .before .before) in
+    (omega arith, omega (arith, long (c .before .before .before .before .before)), λ h. (omega arith, omega arith))
+
+returns : tie.Need-returns
+returns c =
+    let o = c .before .before .before .before .before .before in
+    let s = o .before .before .before .before .before .before in
+    let g = s .args .g in
+    record {
+      layer = o .over .ensures;
+      ways = λ seen Q H.
+          rw (c .seen-at3 .ensures, c .before .before .seen-at2 .ensures, o .before .before .seen-at .ensures)
+          (rows-ways g seen (now (s .args .rows)) (o .over .last .1 .1 .1 .1 .0) H (o .over .ensures .holds seen Q H));
+    }
+
+pub last-layer-spec : {M : Type 1} → statement M
+last-layer-spec =
+    tie.close (tie.spec seen-at-requires (λ c κs. search needs) seen-at-requires-2 seen-at-requires-3 (λ c. search needs) returns)
