@@ -199,17 +199,34 @@ seed-rows g seen h a (suc b) la lb =
     none true = refl
     none false = refl
 
--- n layers from there on
-pub after-seed : (m : Map) (g : Between) (n : ℕ) (rows : List ℕ) → g .y .steps < 16 → Layers m g 0 n seed rows → After m g n rows
-after-seed m g n rows h L seen Q = L .holds seen Q (seed-rows g seen h)
+pub after-none : (m : Map) (g : Between) (rows : List ℕ) → g .y .steps < 16 → rows ≡ seed → After m g 0 rows
+after-none m g rows h e seen Q = rw e (seed-rows g seen h)
+
+pub after-more : (m : Map) (g : Between) (i n : ℕ) (old new : List ℕ) → Layers m g i n old new → After m g i old → After m g n new
+after-more m g i n old new L A seen Q = L .holds seen Q (A seen Q)
+
+-- where a step is left
+pub where-left : (left : ℕ) (v w : Bool) → (0 < left → v ≡ w) → (ltb 0 left && v) ≡ (ltb 0 left && w)
+where-left left v w e = split (ltb 0 left) refl
+  where
+    split : (t : Bool) → ltb 0 left ≡ t → (t && v) ≡ (t && w)
+    split true f = e (ltb-true 0 left f)
+    split false f = refl
+
+pub seen-left : (rows : List ℕ) (left a x b y : ℕ) → bit (seenAt rows left a x b y) ≡ 1 → 0 < left
+seen-left rows left a x b y = split (ltb 0 left) refl
+  where
+    split : (t : Bool) → ltb 0 left ≡ t → bit (t && bitAt (getD rows (b - y) 0) (a - x)) ≡ 1 → 0 < left
+    split true f h = ltb-true 0 left f
+    split false f h = absurd (omega arith)
 
 pub rows-ways : (g : Between) (seen : Place → Bool) (old new : List ℕ) → Holds g (prior seen (g .z .steps)) old → Holds g (prior seen (g .z .steps + 1)) new
     → let a = g .x .steps in let b = g .y .steps in let c = g .z .steps in
     _≡_ {A = Ways} (record { x = bit (seenAt new a a 1 b 0); y = bit (seenAt new b a 0 b 1); z = bit (seenAt old c a 0 b 0) }) (waysOf seen (far g))
 rows-ways g seen old new H K = rw (
-  way a (place (a - 1) b c) new (a - 1) (b - 0) (λ h. ap (λ i. bitAt (getD new i 0) (a - 1)) (omega arith) ∙ last (a - 1) b (omega arith) (omega arith)),
-  way b (place a (b - 1) c) new (a - 0) (b - 1) (λ h. ap (λ i. bitAt (getD new (b - 1) 0) i) (omega arith) ∙ last a (b - 1) (omega arith) (omega arith)),
-  way c (place a b (c - 1)) old (a - 0) (b - 0) (λ h. ap (λ i. bitAt (getD old i 0) (a - 0)) (omega arith) ∙ ap (λ i. bitAt (getD old b 0) i) (omega arith)
+  where-left a (bitAt (getD new (b - 0) 0) (a - 1)) (seen (place (a - 1) b c)) (λ h. last (b - 0) b (a - 1) (a - 1) (omega arith) refl (omega arith) (omega arith)),
+  where-left b (bitAt (getD new (b - 1) 0) (a - 0)) (seen (place a (b - 1) c)) (λ h. last (b - 1) (b - 1) (a - 0) a refl (omega arith) (omega arith) (omega arith)),
+  where-left c (bitAt (getD old (b - 0) 0) (a - 0)) (seen (place a b (c - 1))) (λ h. at old (b - 0) b (a - 0) a (omega arith) (omega arith)
       ∙ H a b (omega arith) (omega arith) ∙ before c h),
 )
   where
@@ -222,15 +239,11 @@ rows-ways g seen old new H K = rw (
     c : ℕ
     c = g .z .steps
 
-    way : (left : ℕ) (t : Place) (rows : List ℕ) (i j : ℕ) → (0 < left → bitAt (getD rows j 0) i ≡ seen t) → (ltb 0 left && bitAt (getD rows j 0) i) ≡ (ltb 0 left && seen t)
-    way left t rows i j e = split (ltb 0 left) refl
-      where
-        split : (q : Bool) → ltb 0 left ≡ q → (q && bitAt (getD rows j 0) i) ≡ (q && seen t)
-        split true f = e (ltb-true 0 left f)
-        split false f = refl
+    at : (rows : List ℕ) (j j′ i i′ : ℕ) → j ≡ j′ → i ≡ i′ → bitAt (getD rows j 0) i ≡ bitAt (getD rows j′ 0) i′
+    at rows j j′ i i′ e f = rw (e, f)
 
-    last : (i j : ℕ) → i ≤ a → j ≤ b → bitAt (getD new j 0) i ≡ seen (place i j c)
-    last i j li lj = K i j li lj ∙ rw (add-one c)
+    last : (j j′ i i′ : ℕ) → j ≡ j′ → i ≡ i′ → i′ ≤ a → j′ ≤ b → bitAt (getD new j 0) i ≡ seen (place i′ j′ c)
+    last j j′ i i′ e f li lj = at new j j′ i i′ e f ∙ K i′ j′ li lj ∙ rw (add-one c)
 
     before : (k : ℕ) → 0 < k → prior seen k a b ≡ seen (place a b (k - 1))
     before zero h = absurd (omega arith)

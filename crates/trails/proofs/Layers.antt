@@ -127,9 +127,9 @@ spread-safe m g old new P seen Q k x right e = elim (tried (any (g .x .steps + 1
     on-x a = any (g .y .steps + 1) (on-y a)
 
 -- the ways into a node are those that stand in the bytes
-pub ways-in : (m : Map) (g : Between) (n : ℕ) (old new : List ℕ) → Spread m g n old new → (seen : Place → Bool) → Seen m g seen
+pub byte-ways : (m : Map) (g : Between) (n : ℕ) (old new : List ℕ) → Spread m g n old new → (seen : Place → Bool) → Seen m g seen
     → (t : Place) → Within g t → t .z < n → waysIn (m .sizes) g new t ≡ waysOf seen t
-ways-in m g n old new P seen Q t w l = rw (
+byte-ways m g n old new P seen Q t w l = rw (
   entered-is (m .sizes) g new t (t .x) 1 0 0 (nearer t X) (seen (nearer t X))
       (λ h. place-eq (place (t .x - 1) (t .y - 0) (t .z - 0)) (nearer t X) refl (omega arith) (omega arith))
       (λ h. P .at seen Q (nearer t X) (omega (arith, w)) l),

@@ -1,4 +1,5 @@
 pub mod Layers
+pub mod Table
 pub mod Following
 pub mod Trails
 pub mod Routing

@@ -24,8 +24,7 @@ use Rattle.paths.specs.Offered.{route}
 use Rattle.paths.specs.Entries.{checkEnds, verdictCheck, routeCheck, routeAnswer, routeWritten, routeOut}
 use Rattle.paths.proofs.Offered.{route-length}
 use Rattle.rows.specs.Box.{between, reach}
-use Rattle.trails.specs.Spread.{Spread}
-use Rattle.trails.specs.Table.{trail, routedAnswer, routedOut}
+use Rattle.trails.specs.Table.{Table, trail, routedAnswer, routedOut}
 use Rattle.trails.proofs.Trails.{route-trail}
 
 module _ (m : Map) (p e : Place) (old : List ℕ) where
@@ -44,13 +43,13 @@ module _ (m : Map) (p e : Place) (old : List ℕ) where
 
 -- the way through the table is written in full, and nothing else
 pub route-written : (m : Map) (p e : Place) (p-in : Inside (m .sizes) p) (e-in : Inside (m .sizes) e) → T (mayEnd (cellAt m e))
-    → (none table : List ℕ) → Spread m (between e p) (between e p .z .steps + 1) none table
+    → (table : List ℕ) → Table m (between e p) (between e p .z .steps + 1) table
     → (old new : List ℕ) → T (leads m e p e) → hops p e + 1 ≤ length old
-    → Filled (λ i. i) (λ i. number (m .sizes) (reach (between e p) (trail (m .sizes) (between e p) table i))) old new (hops p e + 1)
+    → Filled (λ i. i) (λ i. number (m .sizes) (reach (between e p) (trail (between e p) table i))) old new (hops p e + 1)
     → new ≡ route m e p ++ drop (hops p e + 1) old
-route-written m p e p-in e-in ends none table K old new l h F = front (route m e p) old new (hops p e + 1)
+route-written m p e p-in e-in ends table K old new l h F = front (route m e p) old new (hops p e + 1)
     (route-length m e p p-in l) h (F .size)
-    (λ k i. F .at k i ∙ sym (route-trail m p e p-in e-in ends none table K l k (omega arith)))
+    (λ k i. F .at k i ∙ sym (route-trail m p e p-in e-in ends table K l k (omega arith)))
     (λ k i. F .kept k (λ j n q. omega arith))
 
 -- ---- the public call

@@ -24,14 +24,13 @@ use Rattle.paths.proofs.Differences.{at-eq, hops-zero, hops-is, same-iff, size-
 use Rattle.paths.proofs.Paths.{leads-iff, hop-lowers}
 use Rattle.paths.proofs.Offered.{lowest-is, least-one, offers-iff}
 use Rattle.rows.specs.Box.{between, reach, far, Within}
-use Rattle.sweeps.specs.Sweep.{wayIn, entry, waysOf, waysIn}
+use Rattle.sweeps.specs.Sweep.{wayIn, entry, waysOf}
 use Rattle.sweeps.proofs.Runs.{runOn, origin, reach-first, reach-far}
 use Rattle.sweeps.proofs.Backward.{ahead, node-in, step-back, from-end, leads-entry, offers-back, offers-on}
 use Rattle.sweeps.specs.declared.Ways.{Ways}
 use Rattle.rows.specs.declared.Between.{Between}
-use Rattle.trails.specs.Spread.{Spread}
-use Rattle.trails.specs.Table.{towards, nearest, trail}
-use Rattle.trails.proofs.Layers.{ways-in}
+use Rattle.trails.specs.Table.{Table, towards, waysIn, nearest, trail}
+use Rattle.trails.proofs.Table.{ways-in}
 use Rattle.trails.proofs.Following.{towards-within}
 
 -- ---- the lowest of six
@@ -136,13 +135,13 @@ module _ (m : Map) (s e : Place) (s-in : Inside (m .sizes) s) (e-in : Inside (m 
       ∙ ap (λ (b : Bool). b || entry (ahead m s e s-in e-in) (far g)) (far-zero s e)
       ∙ ap (λ (b : Bool). eqb (hops s e) 0 || b) (summed w (ahead m s e s-in e-in) (far g) h)
 
-  module _ (old table : List ℕ) (K : Spread m g (g .z .steps + 1) old table) where
-    nearest-is : (t : Place) → Within g t → nearest (m .sizes) g table t ≡ towards (waysOf (ahead m s e s-in e-in) t) t
+  module _ (table : List ℕ) (K : Table m g (g .z .steps + 1) table) where
+    nearest-is : (t : Place) → Within g t → nearest table t ≡ towards (waysOf (ahead m s e s-in e-in) t) t
     nearest-is t w = ap (λ (v : Ways). towards v t)
-        (ways-in m g (g .z .steps + 1) old table K (ahead m s e s-in e-in) (from-end m s e s-in e-in ends) t w (omega (arith, w .z-le)))
+        (ways-in m g (g .z .steps + 1) table K (ahead m s e s-in e-in) (from-end m s e s-in e-in ends) t w (omega (arith, w .z-le)))
 
     -- from a node with a path that is not the end, the way takes the lowest offered direction
-    forth : (t : Place) → Within g t → T (leads m e (reach g t) e) → (t ≡ origin → ⊥) → Onto (reach g t) (reach g (nearest (m .sizes) g table t))
+    forth : (t : Place) → Within g t → T (leads m e (reach g t) e) → (t ≡ origin → ⊥) → Onto (reach g t) (reach g (nearest table t))
     forth t w l off =
         rw (nearest-is t w, bit-one (seen t X), bit-one (seen t Y), bit-one (seen t Z)) (split (seen t X) (seen t Y) (seen t Z) refl refl refl)
       where
@@ -167,7 +166,7 @@ module _ (m : Map) (s e : Place) (s-in : Inside (m .sizes) s) (e-in : Inside (m 
     -- what is read of the route from any node of the box
     abbrev onwards : ℕ → Place → Place
     onwards zero t = t
-    onwards (suc i) t = onwards i (nearest (m .sizes) g table t)
+    onwards (suc i) t = onwards i (nearest table t)
 
     reads : (n i : ℕ) (t : Place) → Within g t → hops (reach g t) e ≡ n → T (leads m e (reach g t) e) → i ≤ n
         → getD (routeWithin n m e (reach g t)) i 0 ≡ number (m .sizes) (reach g (onwards i t))
@@ -178,18 +177,18 @@ module _ (m : Map) (s e : Place) (s-in : Inside (m .sizes) s) (e-in : Inside (m 
     reads (suc n) (suc i) t w h l k =
         let O = forth t w l (λ f. omega (arith, hops-zero (reach g t) e .1 (ap (reach g) f ∙ reach-first e s))) in
         rw (O .led)
-        (reads n i (nearest (m .sizes) g table t) (towards-within g (waysIn (m .sizes) g table t) t w) (omega (arith, O .nearer)) (O .leading) (omega arith))
+        (reads n i (nearest table t) (towards-within g (waysIn table t) t w) (omega (arith, O .nearer)) (O .leading) (omega arith))
 
-    pushed : (i : ℕ) (t : Place) → nearest (m .sizes) g table (onwards i t) ≡ onwards i (nearest (m .sizes) g table t)
+    pushed : (i : ℕ) (t : Place) → nearest table (onwards i t) ≡ onwards i (nearest table t)
     pushed zero t = refl
-    pushed (suc i) t = pushed i (nearest (m .sizes) g table t)
+    pushed (suc i) t = pushed i (nearest table t)
 
-    trail-is : (i : ℕ) → trail (m .sizes) g table i ≡ onwards i (far g)
+    trail-is : (i : ℕ) → trail g table i ≡ onwards i (far g)
     trail-is zero = refl
-    trail-is (suc i) = ap (nearest (m .sizes) g table) (trail-is i) ∙ pushed i (far g)
+    trail-is (suc i) = ap (nearest table) (trail-is i) ∙ pushed i (far g)
 
     -- the nodes of the way are those of the route
-    pub route-trail : T (leads m e s e) → (i : ℕ) → i ≤ hops s e → getD (route m e s) i 0 ≡ number (m .sizes) (reach g (trail (m .sizes) g table i))
+    pub route-trail : T (leads m e s e) → (i : ℕ) → i ≤ hops s e → getD (route m e s) i 0 ≡ number (m .sizes) (reach g (trail g table i))
     unfolding route
     route-trail l i k =
         rw (trail-is i) (subst (λ (p : Place). getD (routeWithin (hops s e) m e p) i 0 ≡ number (m .sizes) (reach g (onwards i (far g)))) (reach-far e s)

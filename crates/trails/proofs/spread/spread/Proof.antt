@@ -14,7 +14,7 @@ use Rattle.mesh.proofs.Bits.{bit-le}
 use Rattle.rows.specs.Box.{largest, far}
 use Rattle.rows.proofs.Box.{far-in}
 use Rattle.trails.specs.Spread.{Spread}
-use Rattle.trails.proofs.Layers.{room-of, spread-none, spread-laid, spread-more, spread-seeds, spread-from, ways-in}
+use Rattle.trails.proofs.Layers.{room-of, spread-none, spread-laid, spread-more, spread-seeds, spread-from, byte-ways}
 use Rattle.trails.proofs.spread.spread.Statement.{statement}
 use Rattle.trails.proofs.spread.spread.Tie as tie
 
@@ -110,7 +110,7 @@ returns c =
     let P = full l in (
       λ seen Q.
           c .ways-in .ensures ∙ rw (c .before .far .ensures)
-          (ways-in (mapOf (a .s) (now (a .cells))) (a .g) (a .g .z .steps + 1) (now (a .bytes)) (l .before .loop .bytes) P seen Q (far (a .g))
+          (byte-ways (mapOf (a .s) (now (a .cells))) (a .g) (a .g .z .steps + 1) (now (a .bytes)) (l .before .loop .bytes) P seen Q (far (a .g))
           (record { x-le = omega arith; y-le = omega arith; z-le = omega arith }) (omega arith)),
       P,
     )
