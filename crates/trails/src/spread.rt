@@ -1,13 +1,15 @@
-// A sweep with a byte for each node, and what is reached: such a sweep from the start, in the bytes that are lent.
+// What is reached: the layers of a sweep from the start, with a byte for each node, in the bytes that are lent.
 use mesh::Place;
 use mesh::Sizes;
 use rows::Between;
+use rows::layer::add_layer;
 use sweeps::Ways;
+use sweeps::bits::last_layer;
+use sweeps::bits::over;
+use sweeps::bits::seeded;
 use sweeps::boxes::between;
 use sweeps::offers::leads_on;
 use sweeps::signed::hops;
-use sweeps::sweep::sweep_layer;
-use sweeps::sweep::ways_in;
 ghost use mathlib.Core.Path.{_≡_};
 ghost use mathlib.Core.List.{_++_};
 ghost use Prim.Native.Nat.{_+_, _≤_};
@@ -17,27 +19,26 @@ ghost use Rattle.mesh.specs.Mesh.{nodes};
 ghost use Rattle.mesh.specs.Cells.{mapOf};
 ghost use Rattle.mesh.specs.Fill.{Filled};
 ghost use Rattle.paths.specs.Offered.{reached};
-ghost use Rattle.rows.specs.Box.{far, Ready};
+ghost use Rattle.rows.specs.Box.{far, Good, Ready};
 ghost use Rattle.sweeps.specs.Sweep.{Ends, WaysTo};
 ghost use Rattle.trails.specs.Spread.{Bits, Blank, Spread};
 
 // Every layer of a box, each at its own nodes, and the ways into the far corner.
-pub(crate) fn spread(s: Sizes, cells: &[u8], g: Between, bytes: &mut [u8]) -> Ways
-    requires { ⌜ Ready s (now cells) g × (nodes s ≤ length (now bytes)) × Blank s (now bytes) ⌝ }
+fn spread(s: Sizes, cells: &[u8], g: Between, bytes: &mut [u8]) -> Ways
+    requires { ⌜ Ready s (now cells) g × Good s (now cells) × (nodes s ≤ length (now bytes)) × Blank s (now bytes) ⌝ }
     ensures { λ r. ⌜ WaysTo (mapOf s (now (cells .entry))) g (far g) r × Spread (mapOf s (now (cells .entry))) g (g .z .steps + 1) (now (bytes .entry)) (now (bytes .exit)) ⌝ }
 {
-    let n = g.z.steps + 1;
-    bytes[g.node(s, 0, 0, 0)] = 1;
-    let mut behind = 0;
-    let mut first = 1;
+    let n = g.z.steps;
+    let mut rows = seeded();
     let mut c = 0;
     while c < n {
-        sweep_layer(s, cells, g, c, behind, first, bytes);
-        behind = c;
-        first = 0;
+        over(s, cells, g, c, &mut rows);
+        add_layer(s, g, c, &rows, 1, bytes);
         c += 1;
     }
-    ways_in(s, g, bytes, g.far())
+    let w = last_layer(s, cells, g, &mut rows);
+    add_layer(s, g, n, &rows, 1, bytes);
+    w
 }
 
 // The first n bytes become 0.

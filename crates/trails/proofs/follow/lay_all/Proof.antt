@@ -34,22 +34,6 @@ loop-holds c =
     let t = small s in
     (omega arith, rw (c .seeded .ensures), s .pre .2, after-none m (a .g) (c .seeded .result) (omega arith) (c .seeded .ensures), table-none m (a .g) (now (a .table)))
 
--- one layer more
-laid : (c : tie.After-lay Inv-loop μ-loop) →
-    let l = c .before .before .before .before .before .before .before .loop in
-    let a = c .before .before .before .before .before .before .before .before .before .before .before .args in
-    let m = mapOf (a .s) (now (a .cells)) in
-    After m (a .g) (l .c + 1) (c .before .before .before .before .over .last .1 .1 .1 .1 .0) × Table m (a .g) (l .c + 1) (c .lay .last .1 .1 .0)
-laid c =
-    let l = c .before .before .before .before .before .before .before .loop in
-    let o = c .before .before .before .before .over in
-    let s = c .before .before .before .before .before .before .before .before .before .before .before in
-    let a = s .args in
-    let m = mapOf (a .s) (now (a .cells)) in
-    let t = small s in
-    let A = after-more m (a .g) (l .c) (l .c + 1) (l .rows) (o .last .1 .1 .1 .1 .0) (o .ensures) (l .inv .3) in
-    (A, table-more m (a .g) (omega arith) (l .c) (o .last .1 .1 .1 .1 .0) (l .table) (c .lay .last .1 .1 .0) A (c .lay .ensures) (l .inv .4))
-
 over-requires : tie.Need-over-requires Inv-loop μ-loop
 over-requires c κs = let s = c .before .before .before .before .before .before in (s .pre .0, s .pre .1, c .before .before .loop .inv .1, omega arith)
 
@@ -63,9 +47,20 @@ add-c c = omega (arith, small (c .before .before .before .before .before .before
 
 loop-again : tie.Need-loop-again Inv-loop μ-loop
 loop-again c =
-    let w = c .before .before in
+    let w = c .before .before .lay in
+    let o = c .before .before .before .before .before .before .over in
     let l = c .before .before .before .before .before .before .before .before .before .loop in
-    (omega (arith, c .before .before .before .before .before .before .before .before .loop-test .taken), c .before .before .before .before .before .before .over .ensures .size ∙ l .inv .1, w .lay .ensures .size ∙ l .inv .2, laid w .0, laid w .1)
+    let s = c .before .before .before .before .before .before .before .before .before .before .before .before .before in
+    let a = s .args in
+    let m = mapOf (a .s) (now (a .cells)) in
+    let t = small s in
+    let A = after-more m (a .g) (l .c) (l .c + 1) (l .rows) (o .last .1 .1 .1 .1 .0) (o .ensures) (l .inv .3) in (
+      omega (arith, c .before .before .before .before .before .before .before .before .loop-test .taken),
+      o .ensures .size ∙ l .inv .1,
+      w .ensures .size ∙ l .inv .2,
+      A,
+      table-more m (a .g) (omega arith) (l .c) (o .last .1 .1 .1 .1 .0) (l .table) (w .last .1 .1 .0) A (w .ensures) (l .inv .4),
+    )
 
 lay-requires-2 : tie.Need-lay-requires-2 Inv-loop μ-loop
 lay-requires-2 c κs =

@@ -61,6 +61,7 @@ spread-requires c κs =
     let p = s .pre .0 in (
       rw (c .before .between .ensures)
           (record { sized = p .sized; whole = p .whole; held = held (a .s) (a .p) (a .e) (p .start-in) (p .end-in) }),
+      p .good,
       omega (arith, cleared (c .before .before .before .before) .size, s .pre .1),
       cleared (c .before .before .before .before) .at,
     )
