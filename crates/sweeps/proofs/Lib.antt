@@ -1,9 +1,5 @@
 pub mod Runs
-pub mod Rows
-pub mod Once
-pub mod Waves
-pub mod Layers
-pub mod Entered
+pub mod Seen
 pub mod Backward
 pub mod Forward
 pub mod Flags

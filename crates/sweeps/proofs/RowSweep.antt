@@ -21,7 +21,7 @@ use Rattle.rows.proofs.Bits.{at-or}
 use Rattle.rows.proofs.Packs.{at-packed, at-none, packed-not}
 use Rattle.rows.specs.Box.{reach, far}
 use Rattle.sweeps.specs.Sweep.{Seen, prior, Holds, rowBefore, Over, Layers, After, seed, seenAt, waysOf}
-use Rattle.sweeps.proofs.Layers.{next-seen}
+use Rattle.sweeps.proofs.Seen.{next-seen}
 use Rattle.sweeps.specs.declared.Ways.{Ways}
 use Rattle.rows.specs.declared.Between.{Between}
 

@@ -7,15 +7,13 @@ use native.Mathlib.Omega.{arith}
 use lib.IntN.{natAbs, subℕ}
 use lib.Dec.{ltb, ltb→lt, lt→ltb}
 use borrow.Author.Tests.{ltb-true, ltb-false, le-ltb}
-use Rattle.mesh.specs.Mesh.{Axis, X, Y, Z, on, place, number, Inside}
+use Rattle.mesh.specs.Mesh.{Axis, X, Y, Z, on, place, Inside}
 use Rattle.mesh.proofs.Tests.{bool-ext}
 use Rattle.mesh.proofs.Steps.{go, put}
-use Rattle.mesh.proofs.Numbers.{number-eq}
 use Rattle.mesh.specs.declared.Sizes.{Sizes}
 use Rattle.mesh.specs.declared.Place.{Place}
 use Rattle.paths.proofs.Differences.{lies, size-is, place-eq}
 use Rattle.rows.specs.Box.{run, between, gone, reach, far, Within, OnAxis, Held}
-use Rattle.rows.proofs.Box.{gone-same, reach-in}
 use Rattle.rows.specs.declared.Run.{Run}
 use Rattle.rows.specs.declared.Between.{Between}
 
@@ -175,13 +173,3 @@ module _ (u v t : Place) (w : Within (between u v) t) where
   put-on X h = ap (put X (reach (between u v) t)) (on-go (u .x) (v .x) (t .x) (w .x-le) h)
   put-on Y h = ap (put Y (reach (between u v) t)) (on-go (u .y) (v .y) (t .y) (w .y-le) h)
   put-on Z h = ap (put Z (reach (between u v) t)) (on-go (u .z) (v .z) (t .z) (w .z-le) h)
-
--- two places of a box with one number are as many steps away
-pub node-same : (S : Sizes) (g : Between) → Held S g → (t t′ : Place) → Within g t → Within g t′
-    → number S (reach g t) ≡ number S (reach g t′) → t ≡ t′
-node-same S g h t t′ w w′ e =
-    let q = number-eq S (reach g t) (reach g t′) (reach-in S g t h w) (reach-in S g t′ h w′) e in
-    place-eq t t′
-    (gone-same (g .x) (S .w) (h .x-on) (t .x) (t′ .x) (w .x-le) (w′ .x-le) (ap (λ (p : Place). p .x) q))
-    (gone-same (g .y) (S .h) (h .y-on) (t .y) (t′ .y) (w .y-le) (w′ .y-le) (ap (λ (p : Place). p .y) q))
-    (gone-same (g .z) (S .d) (h .z-on) (t .z) (t′ .z) (w .z-le) (w′ .z-le) (ap (λ (p : Place). p .z) q))

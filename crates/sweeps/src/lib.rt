@@ -4,9 +4,8 @@ pub mod bits;
 pub mod boxes;
 pub mod offers;
 pub mod signed;
-pub mod sweep;
 
-// On each axis, the byte of the node one step nearer to the corner where a sweep began; 0 if there is none.
+// On each axis, 1 if the node one step nearer to the corner where a sweep began is there and seen, else 0.
 pub struct Ways {
     pub x: u8,
     pub y: u8,

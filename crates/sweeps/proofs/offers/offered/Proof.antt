@@ -15,7 +15,7 @@ use Rattle.paths.specs.Differences.{wanted}
 use Rattle.rows.specs.Box.{between, far}
 use Rattle.sweeps.specs.Sweep.{WaysTo, waysOf, flagOf}
 use Rattle.sweeps.proofs.Runs.{held}
-use Rattle.sweeps.proofs.Entered.{ways-le}
+use Rattle.sweeps.proofs.Seen.{ways-le}
 use Rattle.sweeps.proofs.Backward.{ahead, from-end}
 use Rattle.sweeps.proofs.Flags.{offered-is}
 use Rattle.rows.specs.declared.Between.{Between}

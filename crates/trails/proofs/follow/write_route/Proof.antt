@@ -19,7 +19,7 @@ use Rattle.paths.specs.Paths.{leads}
 use Rattle.rows.specs.Box.{between, reach, far, Ready}
 use Rattle.sweeps.specs.Sweep.{WaysTo, waysOf}
 use Rattle.sweeps.proofs.Runs.{held}
-use Rattle.sweeps.proofs.Entered.{ways-le}
+use Rattle.sweeps.proofs.Seen.{ways-le}
 use Rattle.sweeps.proofs.Backward.{ahead, from-end}
 use Rattle.sweeps.specs.declared.Ways.{Ways}
 use Rattle.rows.specs.declared.Between.{Between}

@@ -17,7 +17,7 @@ use Rattle.paths.specs.Paths.{leads}
 use Rattle.rows.specs.Box.{between, far}
 use Rattle.sweeps.specs.Sweep.{waysOf, WaysTo}
 use Rattle.sweeps.proofs.Runs.{held}
-use Rattle.sweeps.proofs.Entered.{ways-le}
+use Rattle.sweeps.proofs.Seen.{ways-le}
 use Rattle.sweeps.proofs.Forward.{behind, from-start}
 use Rattle.sweeps.specs.declared.Ways.{Ways}
 use Rattle.rows.specs.declared.Between.{Between}
