@@ -205,12 +205,13 @@ after-none m g rows h e seen Q = rw e (seed-rows g seen h)
 pub after-more : (m : Map) (g : Between) (i n : ℕ) (old new : List ℕ) → Layers m g i n old new → After m g i old → After m g n new
 after-more m g i n old new L A seen Q = L .holds seen Q (A seen Q)
 
--- where a step is left
-pub where-left : (left : ℕ) (v w : Bool) → (0 < left → v ≡ w) → (ltb 0 left && v) ≡ (ltb 0 left && w)
-where-left left v w e = split (ltb 0 left) refl
+-- where a step is left, the bit of the node that it leads from
+pub way-seen : (rows : List ℕ) (left a x b y i j : ℕ) (v : Bool) → (0 < left → (a - x ≡ i) × (b - y ≡ j) × (bitAt (getD rows j 0) i ≡ v))
+    → seenAt rows left a x b y ≡ (ltb 0 left && v)
+way-seen rows left a x b y i j v h = split (ltb 0 left) refl
   where
-    split : (t : Bool) → ltb 0 left ≡ t → (t && v) ≡ (t && w)
-    split true f = e (ltb-true 0 left f)
+    split : (t : Bool) → ltb 0 left ≡ t → (t && bitAt (getD rows (b - y) 0) (a - x)) ≡ (t && v)
+    split true f = let (e, q, k) = h (ltb-true 0 left f) in rw (e, q) k
     split false f = refl
 
 pub seen-left : (rows : List ℕ) (left a x b y : ℕ) → bit (seenAt rows left a x b y) ≡ 1 → 0 < left
@@ -224,10 +225,9 @@ pub rows-ways : (g : Between) (seen : Place → Bool) (old new : List ℕ) → H
     → let a = g .x .steps in let b = g .y .steps in let c = g .z .steps in
     _≡_ {A = Ways} (record { x = bit (seenAt new a a 1 b 0); y = bit (seenAt new b a 0 b 1); z = bit (seenAt old c a 0 b 0) }) (waysOf seen (far g))
 rows-ways g seen old new H K = rw (
-  where-left a (bitAt (getD new (b - 0) 0) (a - 1)) (seen (place (a - 1) b c)) (λ h. last (b - 0) b (a - 1) (a - 1) (omega arith) refl (omega arith) (omega arith)),
-  where-left b (bitAt (getD new (b - 1) 0) (a - 0)) (seen (place a (b - 1) c)) (λ h. last (b - 1) (b - 1) (a - 0) a refl (omega arith) (omega arith) (omega arith)),
-  where-left c (bitAt (getD old (b - 0) 0) (a - 0)) (seen (place a b (c - 1))) (λ h. at old (b - 0) b (a - 0) a (omega arith) (omega arith)
-      ∙ H a b (omega arith) (omega arith) ∙ before c h),
+  way-seen new a a 1 b 0 (a - 1) b (seen (place (a - 1) b c)) (λ h. (refl, omega arith, last (a - 1) b (omega arith) (omega arith))),
+  way-seen new b a 0 b 1 a (b - 1) (seen (place a (b - 1) c)) (λ h. (omega arith, refl, last a (b - 1) (omega arith) (omega arith))),
+  way-seen old c a 0 b 0 a b (seen (place a b (c - 1))) (λ h. (omega arith, omega arith, H a b (omega arith) (omega arith) ∙ before c h)),
 )
   where
     a : ℕ
@@ -239,11 +239,8 @@ rows-ways g seen old new H K = rw (
     c : ℕ
     c = g .z .steps
 
-    at : (rows : List ℕ) (j j′ i i′ : ℕ) → j ≡ j′ → i ≡ i′ → bitAt (getD rows j 0) i ≡ bitAt (getD rows j′ 0) i′
-    at rows j j′ i i′ e f = rw (e, f)
-
-    last : (j j′ i i′ : ℕ) → j ≡ j′ → i ≡ i′ → i′ ≤ a → j′ ≤ b → bitAt (getD new j 0) i ≡ seen (place i′ j′ c)
-    last j j′ i i′ e f li lj = at new j j′ i i′ e f ∙ K i′ j′ li lj ∙ rw (add-one c)
+    last : (i j : ℕ) → i ≤ a → j ≤ b → bitAt (getD new j 0) i ≡ seen (place i j c)
+    last i j li lj = K i j li lj ∙ rw (add-one c)
 
     before : (k : ℕ) → 0 < k → prior seen k a b ≡ seen (place a b (k - 1))
     before zero h = absurd (omega arith)

@@ -17,7 +17,7 @@ use Rattle.rows.specs.Row.{bitAt}
 use Rattle.rows.specs.Box.{Within}
 use Rattle.rows.specs.declared.Between.{Between}
 use Rattle.sweeps.specs.Sweep.{nearer, waysOf, Seen, After}
-use Rattle.sweeps.proofs.RowSweep.{where-left}
+use Rattle.sweeps.proofs.RowSweep.{way-seen}
 use Rattle.trails.specs.Table.{Table, waysIn}
 
 pub table-none : (m : Map) (g : Between) (table : List ℕ) → Table m g 0 table
@@ -40,10 +40,10 @@ table-more m g h c rows old new A F K seen Q t w l = elim (eq-or-lt-of-le (le-of
 pub ways-in : (m : Map) (g : Between) (n : ℕ) (table : List ℕ) → Table m g n table → (seen : Place → Bool) → Seen m g seen
     → (t : Place) → Within g t → t .z < n → waysIn table t ≡ waysOf seen t
 ways-in m g n table K seen Q t w l = rw (
-  where-left (t .x) (bitAt (getD table (16 * t .z + t .y - 0) 0) (t .x - 1)) (seen (nearer t X)) (λ h. at (16 * t .z + t .y - 0) (t .x - 1) (nearer t X) (omega (arith, w)) l (omega arith) refl),
-  where-left (t .y) (bitAt (getD table (16 * t .z + t .y - 1) 0) (t .x - 0)) (seen (nearer t Y)) (λ h. at (16 * t .z + t .y - 1) (t .x - 0) (nearer t Y) (omega (arith, w)) l (omega arith) (omega arith)),
-  where-left (t .z) (bitAt (getD table (16 * t .z + t .y - 16) 0) (t .x - 0)) (seen (nearer t Z)) (λ h. at (16 * t .z + t .y - 16) (t .x - 0) (nearer t Z) (omega (arith, w)) (omega arith) (omega arith) (omega arith)),
+  way-seen table (t .x) (t .x) 1 (16 * t .z + t .y) 0 (t .x - 1) (16 * t .z + t .y) (seen (nearer t X))
+      (λ h. (refl, omega arith, K seen Q (nearer t X) (omega (arith, w)) l)),
+  way-seen table (t .y) (t .x) 0 (16 * t .z + t .y) 1 (t .x) (16 * t .z + (t .y - 1)) (seen (nearer t Y))
+      (λ h. (omega arith, omega arith, K seen Q (nearer t Y) (omega (arith, w)) l)),
+  way-seen table (t .z) (t .x) 0 (16 * t .z + t .y) 16 (t .x) (16 * (t .z - 1) + t .y) (seen (nearer t Z))
+      (λ h. (omega arith, omega arith, K seen Q (nearer t Z) (omega (arith, w)) (omega arith))),
 )
-  where
-    at : (i a : ℕ) (u : Place) → Within g u → u .z < n → i ≡ 16 * u .z + u .y → a ≡ u .x → bitAt (getD table i 0) a ≡ seen u
-    at i a u w l e f = rw (e, f) (K seen Q u w l)

@@ -29,19 +29,19 @@ left c =
     )
 
 sub-t5 : tie.Need-sub-t5
-sub-t5 c = left (c .before .before .before) .0 (c .before .if1 .taken)
+sub-t5 c = let (x, y, z) = left (c .before .before .before) in search (x, y, z, c .before .if1 .taken)
 
 returns : tie.Need-returns
 returns c = (rw (eq-eqb _ _ (c .before .if1 .taken))) ∙ told (c .before .before .before)
 
 sub-t6 : tie.Need-sub-t6
-sub-t6 c = left (c .before .before .before .before .before) .1 (c .before .if2 .taken)
+sub-t6 c = let (x, y, z) = left (c .before .before .before .before .before) in search (x, y, z, c .before .if2 .taken)
 
 returns-2 : tie.Need-returns-2
 returns-2 c = (rw (ne-eqb _ _ (c .before .before .before .if1 .left), eq-eqb _ _ (c .before .if2 .taken))) ∙ told (c .before .before .before .before .before)
 
 sub-t7 : tie.Need-sub-t7
-sub-t7 c = left (c .before .before .before .before .before .before .before) .2 (c .before .if3 .taken)
+sub-t7 c = let (x, y, z) = left (c .before .before .before .before .before .before .before) in search (x, y, z, c .before .if3 .taken)
 
 returns-3 : tie.Need-returns-3
 returns-3 c =
