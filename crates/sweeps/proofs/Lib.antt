@@ -4,3 +4,4 @@ pub mod Backward
 pub mod Forward
 pub mod Flags
 pub mod RowSweep
+pub mod Once
