@@ -1,4 +1,4 @@
-// A sweep with a byte for each node: what is reached, and the route, which is the way through those bytes.
+// What is reached, from a sweep from the start; and the route, which is the way through the layers of a sweep from the end.
 
 pub mod follow;
 pub mod spread;

@@ -40,10 +40,11 @@ over-requires c κs = let s = c .before .before .before .before .before .before 
 lay-requires : tie.Need-lay-requires Inv-loop μ-loop
 lay-requires c κs =
     let l = c .before .before .before .before .before .before .loop in
-    (c .before .before .before .over .ensures .size ∙ l .inv .1, l .inv .2, omega (arith, small (c .before .before .before .before .before .before .before .before .before .before), c .before .before .before .before .before .loop-test .taken))
+    let t = small (c .before .before .before .before .before .before .before .before .before .before) in
+    (c .before .before .before .over .ensures .size ∙ l .inv .1, l .inv .2, omega arith)
 
 add-c : tie.Need-add-c Inv-loop μ-loop
-add-c c = omega (arith, small (c .before .before .before .before .before .before .before .before .before .before .before .before .before), c .before .before .before .before .before .before .before .before .loop-test .taken)
+add-c c = omega (arith, small (c .before .before .before .before .before .before .before .before .before .before .before .before .before))
 
 loop-again : tie.Need-loop-again Inv-loop μ-loop
 loop-again c =
@@ -55,7 +56,7 @@ loop-again c =
     let m = mapOf (a .s) (now (a .cells)) in
     let t = small s in
     let A = after-more m (a .g) (l .c) (l .c + 1) (l .rows) (o .last .1 .1 .1 .1 .0) (o .ensures) (l .inv .3) in (
-      omega (arith, c .before .before .before .before .before .before .before .before .loop-test .taken),
+      omega arith,
       o .ensures .size ∙ l .inv .1,
       w .ensures .size ∙ l .inv .2,
       A,
@@ -67,6 +68,11 @@ lay-requires-2 c κs =
     let l = c .before .before .before .before .before .before .loop in
     let t = small (c .before .before .before .before .before .before .before .before .before .before) in
     (c .before .before .before .last-layer .ensures .layer .size ∙ l .inv .1, l .inv .2, omega arith)
+
+same-length : tie.Need-same-length Inv-loop μ-loop
+same-length c =
+    let l = c .before .before .before .before .before .before .before .before .before .loop in
+    c .before .before .lay2 .ensures .size ∙ l .inv .2 ∙ sym (c .before .before .before .before .before .before .before .before .before .before .before .before .before .pre .2)
 
 returns : tie.Need-returns Inv-loop μ-loop
 returns c =
@@ -89,4 +95,4 @@ pub lay-all-spec : {M : Type 1} → statement M
 lay-all-spec =
     tie.close (tie.spec Inv-loop μ-loop (λ c κs. search needs) loop-holds (λ c. sym (c .before .before .loop .inv .1)) over-requires (λ c. search needs) lay-requires
     add-c (λ c. omega arith) loop-again (λ c. sym (c .before .before .loop .inv .1)) (λ c κs. search needs) (λ c. search needs) lay-requires-2
-    (λ c. c .before .before .lay2 .ensures .size ∙ c .before .before .before .before .before .before .before .before .before .loop .inv .2 ∙ sym (c .before .before .before .before .before .before .before .before .before .before .before .before .before .pre .2)) returns)
+    same-length returns)

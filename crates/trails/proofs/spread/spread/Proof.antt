@@ -55,7 +55,7 @@ add-layer-requires c κs =
     let s = c .before .before .before .before .before .before .before .before .before .before in
     let a = s .args in
     let t = small s in
-    adds (mapOf (a .s) (now (a .cells))) (a .g) (s .pre .0) (l .c) (omega (arith, c .before .before .before .before .before .loop-test .taken)) (now (a .bytes)) (l .bytes) (s .pre .3) (l .inv .3)
+    adds (mapOf (a .s) (now (a .cells))) (a .g) (s .pre .0) (l .c) (omega arith) (now (a .bytes)) (l .bytes) (s .pre .3) (l .inv .3)
     (s .pre .2) _ (omega (arith, c .before .before .before .over .ensures .size, l .inv .1))
 
 add-layer-requires-2 : tie.Need-add-layer-requires-2 Inv-loop μ-loop
@@ -68,7 +68,7 @@ add-layer-requires-2 c κs =
     (s .pre .2) _ (omega (arith, c .before .before .before .last-layer .ensures .layer .size, l .inv .1))
 
 add-c : tie.Need-add-c Inv-loop μ-loop
-add-c c = omega (arith, small (c .before .before .before .before .before .before .before .before .before .before .before .before .before), c .before .before .before .before .before .before .before .before .loop-test .taken)
+add-c c = omega (arith, small (c .before .before .before .before .before .before .before .before .before .before .before .before .before))
 
 loop-again : tie.Need-loop-again Inv-loop μ-loop
 loop-again c =
