@@ -5,7 +5,7 @@ use mesh::Sizes;
 use rows::Between;
 use rows::Run;
 use rows::layer::add_layer;
-use rows::layer::faulty_row;
+use rows::layer::faulty_layer;
 use rows::sweep_row;
 ghost use mathlib.Core.Path.{_≡_};
 ghost use Prim.Native.Nat.{ℕ, _+_, _≤_, _<_};
@@ -60,12 +60,12 @@ fn over(s: Sizes, cells: &[u8], g: Between, c: usize, rows: &mut [u16])
     ensures { λ _. ⌜ Over (mapOf s (now (cells .entry))) g c (now (rows .entry)) (now (rows .exit)) (g .y .steps + 1) ⌝ }
 {
     let n = g.y.steps + 1;
+    let faulty = faulty_layer(s, cells, g, c);
     let mut last: u16 = 0;
     let mut b = 0;
     while b < n {
-        let faulty = faulty_row(s, cells, g, b, c);
-        let may = faulty | (last & rows[b]);
-        last = sweep_row(may, faulty, may);
+        let may = faulty[b] | (last & rows[b]);
+        last = sweep_row(may, faulty[b], may);
         rows[b] = last;
         b += 1;
     }

@@ -9,10 +9,10 @@ use lib.ListN.{length, getD}
 use lib.Dec.{ltb}
 use Rattle.mesh.specs.Tools.{bit}
 use Rattle.mesh.specs.Mesh.{sizes, place, nodes, number, InRange}
-use Rattle.mesh.specs.Cells.{badCell}
+use Rattle.mesh.specs.Cells.{Map, badCell, faulty}
 use Rattle.mesh.specs.declared.Sizes.{Sizes}
 use Rattle.mesh.specs.declared.Place.{Place}
-use Rattle.rows.specs.Row.{bitAt}
+use Rattle.rows.specs.Row.{bitAt, packed}
 use Rattle.rows.specs.declared.Run.{Run}
 use Rattle.rows.specs.declared.Between.{Between}
 
@@ -72,6 +72,10 @@ pub record Ready (S : Sizes) (cells : List ℕ) (g : Between) : Type 0 where
   pub sized : InRange S
   pub whole : length cells ≡ nodes S
   pub held : Held S g
+
+-- the faulty nodes of row b of layer c, as one number
+abbrev pub faultyRow : Map → Between → ℕ → ℕ → ℕ
+faultyRow m g b c = packed (λ a. faulty m (reach g (place a b c))) (g .x .steps + 1)
 
 -- a byte for each node of a box
 pub record Room (S : Sizes) (g : Between) (bytes : List ℕ) : Type 0 where

@@ -6,18 +6,31 @@ use mesh::Sizes;
 ghost use mathlib.Core.Path.{_≡_};
 ghost use Prim.Native.Nat.{ℕ, _+_, _≤_, _<_};
 ghost use lib.ListN.{length, getD};
-ghost use Rattle.mesh.specs.Mesh.{place};
-ghost use Rattle.mesh.specs.Cells.{mapOf, faulty};
-ghost use Rattle.rows.specs.Row.{packed};
-ghost use Rattle.rows.specs.Box.{reach, spot, Good, Ready, Room, AddedRows};
+ghost use Rattle.mesh.specs.Cells.{mapOf};
+ghost use Rattle.rows.specs.Box.{faultyRow, spot, Good, Ready, Room, AddedRows};
 
 // The faulty nodes of row b of layer c.
-pub fn faulty_row(s: Sizes, cells: &[u8], g: Between, b: usize, c: usize) -> u16
+fn faulty_row(s: Sizes, cells: &[u8], g: Between, b: usize, c: usize) -> u16
     requires { ⌜ Ready s (now cells) g × Good s (now cells) × (b ≤ g .y .steps) × (c ≤ g .z .steps) ⌝ }
-    ensures { λ r. ⌜ r ≡ packed (λ a. faulty (mapOf s (now (cells .entry))) (reach g (place a b c))) (g .x .steps + 1) ⌝ }
+    ensures { λ r. ⌜ r ≡ faultyRow (mapOf s (now (cells .entry))) g b c ⌝ }
 {
     let x = g.x;
     pack_row(cells, 0, g.node(s, 0, b, c), x.steps + 1, x.down)
+}
+
+// The faulty nodes of layer c, row by row.
+pub fn faulty_layer(s: Sizes, cells: &[u8], g: Between, c: usize) -> [u16; 16]
+    requires { ⌜ Ready s (now cells) g × Good s (now cells) × (c ≤ g .z .steps) ⌝ }
+    ensures { λ r. ⌜ (length r ≡ 16) × ((b : ℕ) → b ≤ g .y .steps → getD r b 0 ≡ faultyRow (mapOf s (now (cells .entry))) g b c) ⌝ }
+{
+    let n = g.y.steps + 1;
+    let mut rows = [0u16; 16];
+    let mut b = 0;
+    while b < n {
+        rows[b] = faulty_row(s, cells, g, b, c);
+        b += 1;
+    }
+    rows
 }
 
 // Adds v to the byte of each node of layer c whose bit is 1.

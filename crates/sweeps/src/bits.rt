@@ -3,25 +3,15 @@ use crate::Ways;
 use mesh::Sizes;
 use rows::Between;
 use rows::full;
-use rows::layer::faulty_row;
+use rows::layer::faulty_layer;
 use rows::sweep_row;
 ghost use mathlib.Core.Path.{_≡_};
 ghost use Prim.Native.Nat.{ℕ, _+_, _≤_, _<_};
 ghost use Rattle.mesh.specs.Tools.{bit};
 ghost use lib.ListN.{length};
-ghost use Rattle.mesh.specs.Mesh.{place};
-ghost use Rattle.mesh.specs.Cells.{mapOf, cellAt, mayPass};
-ghost use Rattle.rows.specs.Row.{bitAt};
-ghost use Rattle.rows.specs.Box.{reach, Good, Ready};
+ghost use Rattle.mesh.specs.Cells.{mapOf};
+ghost use Rattle.rows.specs.Box.{Good, Ready};
 ghost use Rattle.sweeps.specs.Sweep.{Layers, Last, seed, seenAt};
-
-// The nodes of row b of layer c that may be passed.
-fn pass_row(s: Sizes, cells: &[u8], g: Between, b: usize, c: usize) -> u16
-    requires { ⌜ Ready s (now cells) g × Good s (now cells) × (b ≤ g .y .steps) × (c ≤ g .z .steps) ⌝ }
-    ensures { λ r. ⌜ ((a : ℕ) → a ≤ g .x .steps → bitAt r a ≡ mayPass (cellAt (mapOf s (now (cells .entry))) (reach g (place a b c)))) ⌝ }
-{
-    full(g.x.steps + 1) - faulty_row(s, cells, g, b, c)
-}
 
 // Layer c, over the layer before it. The corner is seen by itself, whether or not it may be passed.
 pub fn over(s: Sizes, cells: &[u8], g: Between, c: usize, rows: &mut [u16])
@@ -29,11 +19,13 @@ pub fn over(s: Sizes, cells: &[u8], g: Between, c: usize, rows: &mut [u16])
     ensures { λ _. ⌜ Layers (mapOf s (now (cells .entry))) g c (c + 1) (now (rows .entry)) (now (rows .exit)) ⌝ }
 {
     let n = g.y.steps + 1;
+    let all = full(g.x.steps + 1);
+    let faulty = faulty_layer(s, cells, g, c);
     let mut first = (c == 0) as u16;
     let mut last: u16 = 0;
     let mut b = 0;
     while b < n {
-        let pass = pass_row(s, cells, g, b, c) | first;
+        let pass = (all - faulty[b]) | first;
         last = sweep_row(pass, last | rows[b], pass);
         rows[b] = last;
         first = 0;
