@@ -60,7 +60,8 @@ fn over(s: Sizes, cells: &[u8], g: Between, c: usize, rows: &mut [u16])
     ensures { λ _. ⌜ Over (mapOf s (now (cells .entry))) g c (now (rows .entry)) (now (rows .exit)) (g .y .steps + 1) ⌝ }
 {
     let n = g.y.steps + 1;
-    let faulty = faulty_layer(s, cells, g, c);
+    let mut faulty = [0u16; 16];
+    faulty_layer(s, cells, g, c, &mut faulty);
     let mut last: u16 = 0;
     let mut b = 0;
     while b < n {

@@ -7,6 +7,7 @@ ghost use mathlib.Core.Path.{_≡_};
 ghost use Prim.Native.Nat.{ℕ, _+_, _≤_, _<_};
 ghost use lib.ListN.{length, getD};
 ghost use Rattle.mesh.specs.Cells.{mapOf};
+ghost use Rattle.mesh.specs.Fill.{Filled};
 ghost use Rattle.rows.specs.Box.{faultyRow, spot, Good, Ready, Room, AddedRows};
 
 // The faulty nodes of row b of layer c.
@@ -19,18 +20,16 @@ fn faulty_row(s: Sizes, cells: &[u8], g: Between, b: usize, c: usize) -> u16
 }
 
 // The faulty nodes of layer c, row by row.
-pub fn faulty_layer(s: Sizes, cells: &[u8], g: Between, c: usize) -> [u16; 16]
-    requires { ⌜ Ready s (now cells) g × Good s (now cells) × (c ≤ g .z .steps) ⌝ }
-    ensures { λ r. ⌜ (length r ≡ 16) × ((b : ℕ) → b ≤ g .y .steps → getD r b 0 ≡ faultyRow (mapOf s (now (cells .entry))) g b c) ⌝ }
+pub fn faulty_layer(s: Sizes, cells: &[u8], g: Between, c: usize, rows: &mut [u16])
+    requires { ⌜ Ready s (now cells) g × Good s (now cells) × (c ≤ g .z .steps) × (g .y .steps < length (now rows)) ⌝ }
+    ensures { λ _. ⌜ Filled (λ b. b) (λ b. faultyRow (mapOf s (now (cells .entry))) g b c) (now (rows .entry)) (now (rows .exit)) (g .y .steps + 1) ⌝ }
 {
     let n = g.y.steps + 1;
-    let mut rows = [0u16; 16];
     let mut b = 0;
     while b < n {
         rows[b] = faulty_row(s, cells, g, b, c);
         b += 1;
     }
-    rows
 }
 
 // Adds v to the byte of each node of layer c whose bit is 1.

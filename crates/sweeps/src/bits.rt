@@ -20,7 +20,8 @@ pub fn over(s: Sizes, cells: &[u8], g: Between, c: usize, rows: &mut [u16])
 {
     let n = g.y.steps + 1;
     let all = full(g.x.steps + 1);
-    let faulty = faulty_layer(s, cells, g, c);
+    let mut faulty = [0u16; 16];
+    faulty_layer(s, cells, g, c, &mut faulty);
     let mut first = (c == 0) as u16;
     let mut last: u16 = 0;
     let mut b = 0;

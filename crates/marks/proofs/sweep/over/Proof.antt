@@ -35,7 +35,7 @@ small : (c : tie.Start Inv-loop μ-loop) → Inside largest (far (c .args .g))
 small c = let r = c .pre .0 in far-in (c .args .s) (c .args .g) (r .sized) (r .held)
 
 abbrev start : tie.In-loop Inv-loop μ-loop → tie.Start Inv-loop μ-loop
-start c = c .before .before .before .before .before .before
+start c = c .before .before .before .before .before .before .before .before
 
 small-b : (c : tie.In-loop Inv-loop μ-loop) → c .before .loop .b < 16
 small-b c = omega (arith, small (start c))
@@ -47,10 +47,10 @@ add-n : tie.Need-add-n Inv-loop μ-loop
 add-n c = omega (arith, small (c .before .before .before))
 
 faulty-layer-requires : tie.Need-faulty-layer-requires Inv-loop μ-loop
-faulty-layer-requires c κs = let s = c .before .before .before in (s .pre .0, s .pre .1, s .pre .3)
+faulty-layer-requires c κs = let s = c .before .before .before .before in (s .pre .0, s .pre .1, s .pre .3, omega (arith, small s))
 
 loop-holds : tie.Need-loop-holds Inv-loop μ-loop
-loop-holds c = let a = c .before .before .before .before .args in (omega arith, refl, refl, λ m g t e. over-none m g (a .c) (now (a .rows)))
+loop-holds c = let a = c .before .before .before .before .before .before .args in (omega arith, refl, refl, λ m g t e. over-none m g (a .c) (now (a .rows)))
 
 loop-again : tie.Need-loop-again Inv-loop μ-loop
 loop-again c =
@@ -58,7 +58,7 @@ loop-again c =
     let a = start i .args in
     let l = i .before .loop in
     let v = c .sweep-row .result in
-    let faulty = getD (i .before .before .faulty-layer .result) (l .b) 0 in (
+    let faulty = getD (i .before .before .before .faulty-layer .last .1 .1 .1 .1 .0) (l .b) 0 in (
       omega arith,
       before-more (l .rows) (l .b) v (room i),
       length-set (l .rows) (l .b) v ∙ l .inv .2,
@@ -70,14 +70,14 @@ loop-again c =
 returns : tie.Need-returns Inv-loop μ-loop
 returns c =
     let l = c .before .loop in
-    let s = c .before .before .before .before .before .before in
+    let s = c .before .before .before .before .before .before .before .before in
     let a = s .args in
     let m = mapOf (a .s) (now (a .cells)) in
     let e : l .b ≡ a .g .y .steps + 1 = omega arith in
-    subst (Over m (a .g) (a .c) (now (a .rows)) (l .rows)) e (l .inv .3 m (a .g) (s .pre .3, c .before .before .faulty-layer .ensures .1) refl)
+    subst (Over m (a .g) (a .c) (now (a .rows)) (l .rows)) e (l .inv .3 m (a .g) (s .pre .3, λ b h. c .before .before .before .faulty-layer .ensures .at b (omega arith)) refl)
 
 pub over-spec : {M : Type 1} → statement M
 over-spec =
-    tie.close (tie.spec Inv-loop μ-loop add-n faulty-layer-requires loop-holds (λ c. omega (arith, small-b c)) small-b (λ c. omega (arith, small-b c))
+    tie.close (tie.spec Inv-loop μ-loop add-n (λ c. refl) faulty-layer-requires loop-holds (λ c. omega (arith, small-b c)) small-b (λ c. omega (arith, small-b c))
     (λ c. room (c .before)) (λ c. omega (arith, small-b (c .before))) (λ c. small-b (c .before)) (λ c κs. search needs) (λ c. omega (arith, small-b (c .before .before)))
     (λ c. room (c .before .before)) (λ c. omega (arith, small-b (c .before .before))) (λ c. omega arith) loop-again (λ c. c .before .loop .inv .2) returns)

@@ -37,12 +37,14 @@ small : (c : tie.Start Inv-loop μ-loop) → Inside largest (far (c .args .g))
 small c = let r = c .pre .0 in far-in (c .args .s) (c .args .g) (r .sized) (r .held)
 
 abbrev start : tie.In-loop Inv-loop μ-loop → tie.Start Inv-loop μ-loop
-start c = c .before .before .before .before .before .before .before .before
+start c = c .before .before .before .before .before .before .before .before .before .before
 
 -- what was told before the loop
-told : (c : tie.After-faulty-layer Inv-loop μ-loop) → let a = c .before .before .before .before .before .before .args in
-    Told (mapOf (a .s) (now (a .cells))) (a .g) (a .c) (c .before .full .result) (c .faulty-layer .result)
-told c = let s = c .before .before .before .before .before .before in (s .pre .3, c .before .full .ensures, c .faulty-layer .ensures .1)
+told : (c : tie.After-faulty2 Inv-loop μ-loop) → let a = c .before .before .before .before .before .before .before .before .args in
+    Told (mapOf (a .s) (now (a .cells))) (a .g) (a .c) (c .before .before .before .full .result) (c .before .faulty-layer .last .1 .1 .1 .1 .0)
+told c =
+    let s = c .before .before .before .before .before .before .before .before in
+    (s .pre .3, c .before .before .before .full .ensures, λ b h. c .before .faulty-layer .ensures .at b (omega arith))
 
 small-b : (c : tie.In-loop Inv-loop μ-loop) → c .before .loop .b < 16
 small-b c = omega (arith, small (start c))
@@ -60,11 +62,11 @@ full-requires : tie.Need-full-requires Inv-loop μ-loop
 full-requires c κs = omega (arith, small (c .before .before .before .before))
 
 faulty-layer-requires : tie.Need-faulty-layer-requires Inv-loop μ-loop
-faulty-layer-requires c κs = let s = c .before .before .before .before .before in (s .pre .0, s .pre .1, s .pre .3)
+faulty-layer-requires c κs = let s = c .before .before .before .before .before .before in (s .pre .0, s .pre .1, s .pre .3, omega (arith, small s))
 
 loop-holds : tie.Need-loop-holds Inv-loop μ-loop
 loop-holds c =
-    let a = c .before .before .before .before .before .before .args in
+    let a = c .before .before .before .before .before .before .before .before .args in
     (omega arith, first-none (a .c), refl, refl, λ m g t e. over-none m g (a .c) (now (a .rows)))
 
 -- a row's faulty nodes are some of all
@@ -81,8 +83,8 @@ loop-again c =
     let a = start i .args in
     let l = i .before .loop in
     let v = c .sweep-row .result in
-    let all = i .before .before .before .full .result in
-    let faulty = i .before .before .faulty-layer .result in (
+    let all = i .before .before .before .before .before .full .result in
+    let faulty = i .before .before .before .faulty-layer .last .1 .1 .1 .1 .0 in (
       omega arith,
       first-more (l .b) (a .c),
       before-more (l .rows) (l .b) v (room i),
@@ -97,12 +99,12 @@ loop-again c =
 returns : tie.Need-returns Inv-loop μ-loop
 returns c =
     let l = c .before .loop in
-    let a = c .before .before .before .before .before .before .before .before .args in
+    let a = c .before .before .before .before .before .before .before .before .before .before .args in
     let m = mapOf (a .s) (now (a .cells)) in
     over-all m (a .g) (a .c) (l .b) (now (a .rows)) (l .rows) (omega arith) (l .inv .4 m (a .g) (told (c .before .before)) refl)
 
 pub over-spec : {M : Type 1} → statement M
 over-spec =
-    tie.close (tie.spec Inv-loop μ-loop add-n add-full full-requires faulty-layer-requires (λ c. search needs) loop-holds (λ c. omega (arith, small-b c)) small-b sub-pass
+    tie.close (tie.spec Inv-loop μ-loop add-n add-full full-requires (λ c. refl) faulty-layer-requires (λ c. search needs) loop-holds (λ c. omega (arith, small-b c)) small-b sub-pass
     (λ c. omega (arith, small-b c)) (λ c. room (c .before)) (λ c κs. search needs) (λ c. omega (arith, small-b (c .before .before))) (λ c. room (c .before .before))
     (λ c. omega (arith, small-b (c .before .before))) (λ c. omega arith) loop-again (λ c. c .before .loop .inv .3) returns)
