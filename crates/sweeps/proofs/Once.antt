@@ -13,7 +13,7 @@ use Rattle.mesh.specs.declared.Place.{Place}
 use Rattle.rows.specs.Row.{bitAt}
 use Rattle.rows.specs.Box.{reach}
 use Rattle.rows.specs.declared.Between.{Between}
-use Rattle.sweeps.specs.Sweep.{Seen, prior, Holds, Layers, Last}
+use Rattle.sweeps.specs.Sweep.{Seen, prior, Holds, Layers, Layer}
 use Rattle.sweeps.specs.declared.Ways.{Ways}
 
 -- a row from its first node on: each may be passed and is entered from the one before it, or from the rows before on Y and Z
@@ -61,5 +61,5 @@ module _ (m : Map) (g : Between) where
       → (a b : ℕ) → a ≤ g .x .steps → b ≤ g .y .steps → bitAt (getD l b 0) a ≡ bitAt (getD r b 0) a
   layers-once i n old l r H L R a b la lb = L .holds sees sees-so H a b la lb ∙ sym (R .holds sees sees-so H a b la lb)
 
-  pub ways-once : (old l r : List ℕ) (v w : Ways) → Holds g (prior sees (g .z .steps)) old → Last m g old l v → Last m g old r w → v ≡ w
-  ways-once old l r v w H L R = L .ways sees sees-so H ∙ sym (R .ways sees sees-so H)
+  pub ways-once : (c : ℕ) (old l r : List ℕ) (v w : Ways) → Holds g (prior sees c) old → Layer m g c old l v → Layer m g c old r w → v ≡ w
+  ways-once c old l r v w H L R = L .ways sees sees-so H ∙ sym (R .ways sees sees-so H)

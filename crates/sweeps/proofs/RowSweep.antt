@@ -20,7 +20,7 @@ use Rattle.rows.specs.Row.{bitAt, swept, packed}
 use Rattle.rows.proofs.Bits.{at-or}
 use Rattle.rows.proofs.Packs.{at-packed, at-none, packed-not}
 use Rattle.rows.specs.Box.{reach, far}
-use Rattle.sweeps.specs.Sweep.{Seen, prior, Holds, rowBefore, Over, Layers, After, seed, seenAt, waysOf}
+use Rattle.sweeps.specs.Sweep.{Seen, prior, Holds, rowBefore, Over, Layers, Layer, After, WaysTo, WaysAfter, seed, seenAt, waysOf}
 use Rattle.sweeps.proofs.Seen.{next-seen}
 use Rattle.sweeps.specs.declared.Ways.{Ways}
 use Rattle.rows.specs.declared.Between.{Between}
@@ -178,13 +178,6 @@ module _ (m : Map) (g : Between) (c : ℕ) (hc : c ≤ g .z .steps) (b : ℕ) (h
 pub over-all : (m : Map) (g : Between) (c n : ℕ) (old new : List ℕ) → g .y .steps < n → Over m g c n old new → Layers m g c (c + 1) old new
 over-all m g c n old new h L = record { holds = λ seen Q H a b la lb. L .at seen Q H a b la (omega arith) lb ∙ rw (add-one c); size = L .size }
 
-pub rows-none : (m : Map) (g : Between) (i : ℕ) (old : List ℕ) → Layers m g i i old old
-rows-none m g i old = record { holds = λ seen Q H. H; size = refl }
-
-pub rows-more : (m : Map) (g : Between) (i j n : ℕ) (old mid new : List ℕ) → Layers m g i j old mid → Layers m g j n mid new
-    → Layers m g i n old new
-rows-more m g i j n old mid new L K = record { holds = λ seen Q H. K .holds seen Q (L .holds seen Q H); size = K .size ∙ L .size }
-
 -- ---- before the first layer, and after the last
 
 seed-rows : (g : Between) (seen : Place → Bool) → g .y .steps < 16 → Holds g (prior seen 0) seed
@@ -221,10 +214,10 @@ seen-left rows left a x b y = split (ltb 0 left) refl
     split true f h = ltb-true 0 left f
     split false f h = absurd (omega arith)
 
-pub rows-ways : (g : Between) (seen : Place → Bool) (old new : List ℕ) → Holds g (prior seen (g .z .steps)) old → Holds g (prior seen (g .z .steps + 1)) new
-    → let a = g .x .steps in let b = g .y .steps in let c = g .z .steps in
-    _≡_ {A = Ways} (record { x = bit (seenAt new a a 1 b 0); y = bit (seenAt new b a 0 b 1); z = bit (seenAt old c a 0 b 0) }) (waysOf seen (far g))
-rows-ways g seen old new H K = rw (
+pub rows-ways : (g : Between) (c : ℕ) (seen : Place → Bool) (old new : List ℕ) → Holds g (prior seen c) old → Holds g (prior seen (c + 1)) new
+    → let a = g .x .steps in let b = g .y .steps in
+    _≡_ {A = Ways} (record { x = bit (seenAt new a a 1 b 0); y = bit (seenAt new b a 0 b 1); z = bit (seenAt old c a 0 b 0) }) (waysOf seen (place a b c))
+rows-ways g c seen old new H K = rw (
   way-seen new a a 1 b 0 (a - 1) b (seen (place (a - 1) b c)) (λ h. (refl, omega arith, last (a - 1) b (omega arith) (omega arith))),
   way-seen new b a 0 b 1 a (b - 1) (seen (place a (b - 1) c)) (λ h. (omega arith, refl, last a (b - 1) (omega arith) (omega arith))),
   way-seen old c a 0 b 0 a b (seen (place a b (c - 1))) (λ h. (omega arith, omega arith, H a b (omega arith) (omega arith) ∙ before c h)),
@@ -236,12 +229,17 @@ rows-ways g seen old new H K = rw (
     b : ℕ
     b = g .y .steps
 
-    c : ℕ
-    c = g .z .steps
-
     last : (i j : ℕ) → i ≤ a → j ≤ b → bitAt (getD new j 0) i ≡ seen (place i j c)
     last i j li lj = K i j li lj ∙ rw (add-one c)
 
     before : (k : ℕ) → 0 < k → prior seen k a b ≡ seen (place a b (k - 1))
     before zero h = absurd (omega arith)
     before (suc k) h = let e : suc k - 1 ≡ k = omega arith in rw e
+
+-- one layer more, and the ways into its last node
+pub ways-more : (m : Map) (g : Between) (c : ℕ) (old new : List ℕ) (w : Ways) → Layer m g c old new w → After m g c old → WaysAfter m g (c + 1) w
+ways-more m g c old new w L A h seen Q = let e : c + 1 - 1 ≡ c = omega arith in rw e (L .ways seen Q (A seen Q))
+
+-- after the last layer they are those into the far corner
+pub ways-all : (m : Map) (g : Between) (n : ℕ) (w : Ways) → n ≡ g .z .steps + 1 → WaysAfter m g n w → WaysTo m g (far g) w
+ways-all m g n w e A = let q : n - 1 ≡ g .z .steps = omega arith in rw q at (A (omega arith))

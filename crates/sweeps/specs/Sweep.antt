@@ -72,10 +72,14 @@ pub record Layers (m : Map) (g : Between) (i n : ℕ) (old new : List ℕ) : Typ
   pub holds : (seen : Place → Bool) → Seen m g seen → Holds g (prior seen i) old → Holds g (prior seen n) new
   pub size : length new ≡ length old
 
--- the last layer over the one before it, and the ways into the far corner
-pub record Last (m : Map) (g : Between) (old new : List ℕ) (w : Ways) : Type 0 where
-  pub layer : Layers m g (g .z .steps) (g .z .steps + 1) old new
-  pub ways : (seen : Place → Bool) → Seen m g seen → Holds g (prior seen (g .z .steps)) old → w ≡ waysOf seen (far g)
+-- layer c over the one before it, and the ways into its last node
+pub record Layer (m : Map) (g : Between) (c : ℕ) (old new : List ℕ) (w : Ways) : Type 0 where
+  pub over : Layers m g c (c + 1) old new
+  pub ways : (seen : Place → Bool) → Seen m g seen → Holds g (prior seen c) old → w ≡ waysOf seen (place (g .x .steps) (g .y .steps) c)
+
+-- the ways into the last node of the last of n layers
+abbrev pub WaysAfter : Map → Between → ℕ → Ways → Type 0
+WaysAfter m g n w = 0 < n → WaysTo m g (place (g .x .steps) (g .y .steps) (n - 1)) w
 
 -- the rows after n layers say what is seen in the last of them, whatever is seen
 abbrev pub After : Map → Between → ℕ → List ℕ → Type 0

@@ -11,10 +11,10 @@ ghost use Rattle.mesh.specs.Tools.{bit};
 ghost use lib.ListN.{length};
 ghost use Rattle.mesh.specs.Cells.{mapOf};
 ghost use Rattle.rows.specs.Box.{Good, Ready};
-ghost use Rattle.sweeps.specs.Sweep.{Layers, Last, seed, seenAt};
+ghost use Rattle.sweeps.specs.Sweep.{Layers, Layer, seed, seenAt};
 
 // Layer c, over the layer before it. The corner is seen by itself, whether or not it may be passed.
-pub fn over(s: Sizes, cells: &[u8], g: Between, c: usize, rows: &mut [u16])
+fn over(s: Sizes, cells: &[u8], g: Between, c: usize, rows: &mut [u16])
     requires { ⌜ Ready s (now cells) g × Good s (now cells) × (length (now rows) ≡ 16) × (c ≤ g .z .steps) ⌝ }
     ensures { λ _. ⌜ Layers (mapOf s (now (cells .entry))) g c (c + 1) (now (rows .entry)) (now (rows .exit)) ⌝ }
 {
@@ -31,18 +31,6 @@ pub fn over(s: Sizes, cells: &[u8], g: Between, c: usize, rows: &mut [u16])
         rows[b] = last;
         first = 0;
         b += 1;
-    }
-}
-
-// The first n layers, each over the one before.
-pub(crate) fn sweep(s: Sizes, cells: &[u8], g: Between, n: usize, rows: &mut [u16])
-    requires { ⌜ Ready s (now cells) g × Good s (now cells) × (length (now rows) ≡ 16) × (n ≤ g .z .steps) ⌝ }
-    ensures { λ _. ⌜ Layers (mapOf s (now (cells .entry))) g 0 n (now (rows .entry)) (now (rows .exit)) ⌝ }
-{
-    let mut c = 0;
-    while c < n {
-        over(s, cells, g, c, rows);
-        c += 1;
     }
 }
 
@@ -66,14 +54,13 @@ pub fn seen_at(rows: &[u16], left: usize, a: usize, x: usize, b: usize, y: usize
     ((rows[b - y] >> (a - x)) % 2) as u8
 }
 
-// The last layer, over the one before it, and the ways into the far corner. The layer before is read where the last one goes over it.
-pub fn last_layer(s: Sizes, cells: &[u8], g: Between, rows: &mut [u16]) -> Ways
-    requires { ⌜ Ready s (now cells) g × Good s (now cells) × (length (now rows) ≡ 16) ⌝ }
-    ensures { λ r. ⌜ Last (mapOf s (now (cells .entry))) g (now (rows .entry)) (now (rows .exit)) r ⌝ }
+// Layer c, over the layer before it, and the ways into its last node. The layer before is read where this one goes over it.
+pub fn layer(s: Sizes, cells: &[u8], g: Between, c: usize, rows: &mut [u16]) -> Ways
+    requires { ⌜ Ready s (now cells) g × Good s (now cells) × (length (now rows) ≡ 16) × (c ≤ g .z .steps) ⌝ }
+    ensures { λ r. ⌜ Layer (mapOf s (now (cells .entry))) g c (now (rows .entry)) (now (rows .exit)) r ⌝ }
 {
     let a = g.x.steps;
     let b = g.y.steps;
-    let c = g.z.steps;
     let z = seen_at(rows, c, a, 0, b, 0);
     over(s, cells, g, c, rows);
     Ways {

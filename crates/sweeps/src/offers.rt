@@ -1,8 +1,7 @@
 // The offered set at the start of a route, from a sweep that begins at its end.
 use crate::Ways;
-use crate::bits::last_layer;
+use crate::bits::layer;
 use crate::bits::seeded;
-use crate::bits::sweep;
 use crate::boxes::between;
 use crate::signed::difference;
 use crate::signed::way;
@@ -26,9 +25,15 @@ fn ways(s: Sizes, cells: &[u8], g: Between) -> Ways
     requires { ⌜ Ready s (now cells) g × Good s (now cells) ⌝ }
     ensures { λ r. ⌜ WaysTo (mapOf s (now (cells .entry))) g (far g) r ⌝ }
 {
+    let n = g.z.steps + 1;
     let mut rows = seeded();
-    sweep(s, cells, g, g.z.steps, &mut rows);
-    last_layer(s, cells, g, &mut rows)
+    let mut w = Ways { x: 0, y: 0, z: 0 };
+    let mut c = 0;
+    while c < n {
+        w = layer(s, cells, g, c, &mut rows);
+        c += 1;
+    }
+    w
 }
 
 // Does a path lead between two corners, h hops apart, with these ways into the second?

@@ -5,8 +5,7 @@ use mesh::Refusal;
 use mesh::Sizes;
 use rows::Between;
 use sweeps::Ways;
-use sweeps::bits::last_layer;
-use sweeps::bits::over;
+use sweeps::bits::layer;
 use sweeps::bits::seeded;
 use sweeps::bits::seen_at;
 use sweeps::boxes::between;
@@ -44,16 +43,15 @@ fn lay_all(s: Sizes, cells: &[u8], g: Between, table: &mut [u16]) -> Ways
     requires { ⌜ Ready s (now cells) g × Good s (now cells) × (length (now table) ≡ 256) ⌝ }
     ensures { λ r. ⌜ WaysTo (mapOf s (now (cells .entry))) g (far g) r × Table (mapOf s (now (cells .entry))) g (g .z .steps + 1) (now (table .exit)) ⌝ }
 {
-    let n = g.z.steps;
+    let n = g.z.steps + 1;
     let mut rows = seeded();
+    let mut w = Ways { x: 0, y: 0, z: 0 };
     let mut c = 0;
     while c < n {
-        over(s, cells, g, c, &mut rows);
+        w = layer(s, cells, g, c, &mut rows);
         lay(c, &rows, table);
         c += 1;
     }
-    let w = last_layer(s, cells, g, &mut rows);
-    lay(n, &rows, table);
     w
 }
 

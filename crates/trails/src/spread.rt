@@ -4,8 +4,7 @@ use mesh::Sizes;
 use rows::Between;
 use rows::layer::add_layer;
 use sweeps::Ways;
-use sweeps::bits::last_layer;
-use sweeps::bits::over;
+use sweeps::bits::layer;
 use sweeps::bits::seeded;
 use sweeps::boxes::between;
 use sweeps::offers::leads_on;
@@ -28,16 +27,15 @@ fn spread(s: Sizes, cells: &[u8], g: Between, bytes: &mut [u8]) -> Ways
     requires { ⌜ Ready s (now cells) g × Good s (now cells) × (nodes s ≤ length (now bytes)) × Blank s (now bytes) ⌝ }
     ensures { λ r. ⌜ WaysTo (mapOf s (now (cells .entry))) g (far g) r × Spread (mapOf s (now (cells .entry))) g (g .z .steps + 1) (now (bytes .entry)) (now (bytes .exit)) ⌝ }
 {
-    let n = g.z.steps;
+    let n = g.z.steps + 1;
     let mut rows = seeded();
+    let mut w = Ways { x: 0, y: 0, z: 0 };
     let mut c = 0;
     while c < n {
-        over(s, cells, g, c, &mut rows);
+        w = layer(s, cells, g, c, &mut rows);
         add_layer(s, g, c, &rows, 1, bytes);
         c += 1;
     }
-    let w = last_layer(s, cells, g, &mut rows);
-    add_layer(s, g, n, &rows, 1, bytes);
     w
 }
 

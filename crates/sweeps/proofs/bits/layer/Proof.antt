@@ -1,4 +1,4 @@
--- `sweeps::bits::last_layer` meets its contract: the rows before it give the way on Z, its own those on X and Y (`rows-ways`). Assumes nothing.
+-- `sweeps::bits::layer` meets its contract: the rows before it give the way on Z, its own those on X and Y (`rows-ways`). Assumes nothing.
 use mathlib.Core.Path.{_≡_, _∙_}
 use native.Mathlib.Omega.{arith}
 use borrow.Author.Needs.{needs}
@@ -8,8 +8,8 @@ use Rattle.mesh.specs.Mesh.{Inside}
 use Rattle.rows.specs.Box.{largest, far}
 use Rattle.rows.proofs.Box.{far-in}
 use Rattle.sweeps.proofs.RowSweep.{rows-ways}
-use Rattle.sweeps.proofs.bits.last_layer.Statement.{statement}
-use Rattle.sweeps.proofs.bits.last_layer.Tie as tie
+use Rattle.sweeps.proofs.bits.layer.Statement.{statement}
+use Rattle.sweeps.proofs.bits.layer.Tie as tie
 
 small : (c : tie.Start) → Inside largest (far (c .args .g))
 small c = let r = c .pre .0 in far-in (c .args .s) (c .args .g) (r .sized) (r .held)
@@ -40,12 +40,12 @@ returns c =
     let s = o .before .before .before .before .before .before in
     let g = s .args .g in
     record {
-      layer = o .over .ensures;
+      over = o .over .ensures;
       ways = λ seen Q H.
           rw (c .seen-at3 .ensures, c .before .before .seen-at2 .ensures, o .before .before .seen-at .ensures)
-          (rows-ways g seen (now (s .args .rows)) (o .over .last .1 .1 .1 .1 .0) H (o .over .ensures .holds seen Q H));
+          (rows-ways g (s .args .c) seen (now (s .args .rows)) (o .over .last .1 .1 .1 .1 .0) H (o .over .ensures .holds seen Q H));
     }
 
-pub last-layer-spec : {M : Type 1} → statement M
-last-layer-spec =
+pub layer-spec : {M : Type 1} → statement M
+layer-spec =
     tie.close (tie.spec seen-at-requires (λ c κs. search needs) seen-at-requires-2 seen-at-requires-3 (λ c. search needs) returns)
