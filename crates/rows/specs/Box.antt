@@ -77,6 +77,10 @@ pub record Ready (S : Sizes) (cells : List ℕ) (g : Between) : Type 0 where
 abbrev pub faultyRow : Map → Between → ℕ → ℕ → ℕ
 faultyRow m g b c = packed (λ a. faulty m (reach g (place a b c))) (g .x .steps + 1)
 
+-- those of the rows of layer c
+abbrev pub FaultyRows : Map → Between → ℕ → List ℕ → Type 0
+FaultyRows m g c faulty = (b : ℕ) → b ≤ g .y .steps → getD faulty b 0 ≡ faultyRow m g b c
+
 -- a byte for each node of a box
 pub record Room (S : Sizes) (g : Between) (bytes : List ℕ) : Type 0 where
   pub sized : InRange S

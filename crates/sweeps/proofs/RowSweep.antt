@@ -18,9 +18,10 @@ use Rattle.mesh.specs.Cells.{Map, cellAt, faulty, mayPass}
 use Rattle.mesh.specs.declared.Place.{Place}
 use Rattle.rows.specs.Row.{bitAt, swept, packed}
 use Rattle.rows.proofs.Bits.{at-or}
-use Rattle.rows.proofs.Packs.{at-packed, at-none, packed-not}
-use Rattle.rows.specs.Box.{reach, far}
-use Rattle.sweeps.specs.Sweep.{Seen, prior, Holds, rowBefore, Over, Layers, Layer, After, WaysTo, WaysAfter, seed, seenAt, waysOf}
+use Rattle.rows.proofs.Packs.{packed-lt, at-packed, at-none, packed-not}
+use Rattle.rows.specs.Box.{reach, far, FaultyRows, Ready}
+use Rattle.rows.proofs.Box.{far-in}
+use Rattle.sweeps.specs.Sweep.{Seen, prior, Holds, rowBefore, Over, Layers, Layer, Rows, After, WaysTo, WaysAfter, seed, seenAt, waysOf}
 use Rattle.sweeps.proofs.Seen.{next-seen}
 use Rattle.sweeps.specs.declared.Ways.{Ways}
 use Rattle.rows.specs.declared.Between.{Between}
@@ -36,6 +37,16 @@ row-passes m g b c v all ev ea =
     let w : ℕ = g .x .steps + 1 in
     let q : all - v ≡ packed (λ a. not (f a)) w = omega (arith, packed-not f w) in
     (omega (arith, packed-not f w), λ a l. ap (λ n. bitAt n a) q ∙ at-packed (λ a. not (f a)) w a ∙ rw (lt-ltb a w (omega arith)))
+
+-- the numbers of a layer's faulty nodes go no further than its rows
+pub rows-ready : (m : Map) (g : Between) (c : ℕ) (dead rows : List ℕ) → Ready (m .sizes) (m .cells) g → FaultyRows m g c dead → length dead ≡ 16 → length rows ≡ 16
+    → Rows g dead rows
+rows-ready m g c dead rows r F ed er = record {
+  small = far-in (m .sizes) g (r .sized) (r .held);
+  given = ed;
+  held = er;
+  within = λ b h. rw (F b h) (packed-lt (λ a. faulty m (reach g (place a b c))) (g .x .steps + 1));
+}
 
 -- ---- what a row sees
 

@@ -14,7 +14,7 @@ use Rattle.mesh.specs.declared.Place.{Place}
 use Rattle.paths.specs.declared.Wanted.{Wanted}
 use Rattle.paths.specs.declared.Wanted.the-variants.{Way, Level}
 use Rattle.rows.specs.Row.{bitAt}
-use Rattle.rows.specs.Box.{reach, far, Within, Good}
+use Rattle.rows.specs.Box.{largest, reach, far, Within, Good}
 use Rattle.rows.specs.declared.Between.{Between}
 use Rattle.sweeps.specs.declared.Ways.{Ways}
 
@@ -80,6 +80,13 @@ pub record Layer (m : Map) (g : Between) (c : ℕ) (old new : List ℕ) (w : Way
 -- the ways into the last node of the last of n layers
 abbrev pub WaysAfter : Map → Between → ℕ → Ways → Type 0
 WaysAfter m g n w = 0 < n → WaysTo m g (place (g .x .steps) (g .y .steps) (n - 1)) w
+
+-- sixteen numbers for a layer's faulty nodes, none of them beyond a row's width, and sixteen for what is seen
+pub record Rows (g : Between) (faulty rows : List ℕ) : Type 0 where
+  pub small : Inside largest (far g)
+  pub given : length faulty ≡ 16
+  pub held : length rows ≡ 16
+  pub within : (b : ℕ) → b ≤ g .y .steps → getD faulty b 0 < 2 ^ (g .x .steps + 1)
 
 -- the rows after n layers say what is seen in the last of them, whatever is seen
 abbrev pub After : Map → Between → ℕ → List ℕ → Type 0

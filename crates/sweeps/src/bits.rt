@@ -9,19 +9,18 @@ ghost use mathlib.Core.Path.{_≡_};
 ghost use Prim.Native.Nat.{ℕ, _+_, _≤_, _<_};
 ghost use Rattle.mesh.specs.Tools.{bit};
 ghost use lib.ListN.{length};
-ghost use Rattle.mesh.specs.Cells.{mapOf};
-ghost use Rattle.rows.specs.Box.{Good, Ready};
-ghost use Rattle.sweeps.specs.Sweep.{Layers, Layer, seed, seenAt};
+ghost use Rattle.mesh.specs.Cells.{Map, mapOf};
+ghost use Rattle.rows.specs.Box.{FaultyRows, Good, Ready};
+ghost use Rattle.sweeps.specs.Sweep.{Layers, Layer, Rows, seed, seenAt};
 
-// Layer c, over the layer before it. The corner is seen by itself, whether or not it may be passed.
-fn over(s: Sizes, cells: &[u8], g: Between, c: usize, rows: &mut [u16])
-    requires { ⌜ Ready s (now cells) g × Good s (now cells) × (length (now rows) ≡ 16) × (c ≤ g .z .steps) ⌝ }
-    ensures { λ _. ⌜ Layers (mapOf s (now (cells .entry))) g c (c + 1) (now (rows .entry)) (now (rows .exit)) ⌝ }
+// Layer c, with these faulty nodes, over the layer before it. The corner is seen by itself, whether or not it may be passed.
+fn sweep_rows(g: Between, c: usize, faulty: &[u16], rows: &mut [u16])
+    requires { ⌜ Rows g (now faulty) (now rows) ⌝ }
+    ensures { λ _. ⌜ (length (now (rows .exit)) ≡ length (now (rows .entry)))
+        × ((m : Map) → c ≤ g .z .steps → FaultyRows m g c (now (faulty .entry)) → Layers m g c (c + 1) (now (rows .entry)) (now (rows .exit))) ⌝ }
 {
     let n = g.y.steps + 1;
     let all = full(g.x.steps + 1);
-    let mut faulty = [0u16; 16];
-    faulty_layer(s, cells, g, c, &mut faulty);
     let mut first = (c == 0) as u16;
     let mut last: u16 = 0;
     let mut b = 0;
@@ -54,18 +53,29 @@ pub fn seen_at(rows: &[u16], left: usize, a: usize, x: usize, b: usize, y: usize
     ((rows[b - y] >> (a - x)) % 2) as u8
 }
 
-// Layer c, over the layer before it, and the ways into its last node. The layer before is read where this one goes over it.
-pub fn layer(s: Sizes, cells: &[u8], g: Between, c: usize, rows: &mut [u16]) -> Ways
-    requires { ⌜ Ready s (now cells) g × Good s (now cells) × (length (now rows) ≡ 16) × (c ≤ g .z .steps) ⌝ }
-    ensures { λ r. ⌜ Layer (mapOf s (now (cells .entry))) g c (now (rows .entry)) (now (rows .exit)) r ⌝ }
+// The same, and the ways into the layer's last node. The layer before is read where this one goes over it.
+pub(crate) fn over(g: Between, c: usize, faulty: &[u16], rows: &mut [u16]) -> Ways
+    requires { ⌜ Rows g (now faulty) (now rows) ⌝ }
+    ensures { λ r. ⌜ (length (now (rows .exit)) ≡ length (now (rows .entry)))
+        × ((m : Map) → c ≤ g .z .steps → FaultyRows m g c (now (faulty .entry)) → Layer m g c (now (rows .entry)) (now (rows .exit)) r) ⌝ }
 {
     let a = g.x.steps;
     let b = g.y.steps;
     let z = seen_at(rows, c, a, 0, b, 0);
-    over(s, cells, g, c, rows);
+    sweep_rows(g, c, faulty, rows);
     Ways {
         x: seen_at(rows, a, a, 1, b, 0),
         y: seen_at(rows, b, a, 0, b, 1),
         z,
     }
+}
+
+// Layer c of a map, over the layer before it, and the ways into its last node.
+pub fn layer(s: Sizes, cells: &[u8], g: Between, c: usize, rows: &mut [u16]) -> Ways
+    requires { ⌜ Ready s (now cells) g × Good s (now cells) × (length (now rows) ≡ 16) × (c ≤ g .z .steps) ⌝ }
+    ensures { λ r. ⌜ Layer (mapOf s (now (cells .entry))) g c (now (rows .entry)) (now (rows .exit)) r ⌝ }
+{
+    let mut faulty = [0u16; 16];
+    faulty_layer(s, cells, g, c, &mut faulty);
+    over(g, c, &faulty, rows)
 }

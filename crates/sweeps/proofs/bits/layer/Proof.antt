@@ -1,51 +1,38 @@
--- `sweeps::bits::layer` meets its contract: the rows before it give the way on Z, its own those on X and Y (`rows-ways`). Assumes nothing.
-use mathlib.Core.Path.{_≡_, _∙_}
+-- `sweeps::bits::layer` meets its contract. Assumes nothing.
+use mathlib.Core.Path.{refl, sym}
 use native.Mathlib.Omega.{arith}
-use borrow.Author.Needs.{needs}
-use lib.ListN.{length}
 use denote.Ref.{now}
 use Rattle.mesh.specs.Mesh.{Inside}
-use Rattle.rows.specs.Box.{largest, far}
+use Rattle.mesh.specs.Cells.{mapOf}
+use Rattle.rows.specs.Box.{largest, far, FaultyRows}
 use Rattle.rows.proofs.Box.{far-in}
-use Rattle.sweeps.proofs.RowSweep.{rows-ways}
+use Rattle.sweeps.proofs.RowSweep.{rows-ready}
 use Rattle.sweeps.proofs.bits.layer.Statement.{statement}
 use Rattle.sweeps.proofs.bits.layer.Tie as tie
 
 small : (c : tie.Start) → Inside largest (far (c .args .g))
 small c = let r = c .pre .0 in far-in (c .args .s) (c .args .g) (r .sized) (r .held)
 
--- still sixteen rows
-long : (c : tie.After-over) → length (c .over .last .1 .1 .1 .1 .0) ≡ 16
-long c = c .over .ensures .size ∙ c .before .before .before .before .before .before .pre .2
+faulty-layer-requires : tie.Need-faulty-layer-requires
+faulty-layer-requires c κs = let s = c .before .before .before in (s .pre .0, s .pre .1, s .pre .3, omega (arith, small s))
 
-seen-at-requires : tie.Need-seen-at-requires
-seen-at-requires c κs =
-    let s = c .before .before .before in
-    let t = small s in
-    (omega arith, omega (arith, s .pre .2), λ h. (omega arith, omega arith))
+told : (c : tie.After-faulty3) → let a = c .before .before .before .before .before .before .args in
+    FaultyRows (mapOf (a .s) (now (a .cells))) (a .g) (a .c) (c .before .before .faulty-layer .last .1 .1 .1 .1 .0)
+told c b h = c .before .before .faulty-layer .ensures .at b (omega arith)
 
-seen-at-requires-2 : tie.Need-seen-at-requires-2
-seen-at-requires-2 c κs =
-    let t = small (c .before .before .before .before .before .before .before .before .before) in
-    (omega arith, omega (arith, long (c .before .before .before)), λ h. (omega arith, omega arith))
-
-seen-at-requires-3 : tie.Need-seen-at-requires-3
-seen-at-requires-3 c κs =
-    let t = small (c .before .before .before .before .before .before .before .before .before .before .before) in
-    (omega arith, omega (arith, long (c .before .before .before .before .before)), λ h. (omega arith, omega arith))
+over-requires : tie.Need-over-requires
+over-requires c κs =
+    let s = c .before .before .before .before .before .before .before in
+    let a = s .args in
+    rows-ready (mapOf (a .s) (now (a .cells))) (a .g) (a .c) (c .before .before .before .faulty-layer .last .1 .1 .1 .1 .0) (now (a .rows)) (s .pre .0) (told (c .before))
+    (c .before .before .before .faulty-layer .ensures .size) (s .pre .2)
 
 returns : tie.Need-returns
 returns c =
-    let o = c .before .before .before .before .before .before in
-    let s = o .before .before .before .before .before .before in
-    let g = s .args .g in
-    record {
-      over = o .over .ensures;
-      ways = λ seen Q H.
-          rw (c .seen-at3 .ensures, c .before .before .seen-at2 .ensures, o .before .before .seen-at .ensures)
-          (rows-ways g (s .args .c) seen (now (s .args .rows)) (o .over .last .1 .1 .1 .1 .0) H (o .over .ensures .holds seen Q H));
-    }
+    let s = c .before .before .before .before .before .before .before .before .before .before in
+    let a = s .args in
+    c .before .before .over .ensures .1 (mapOf (a .s) (now (a .cells))) (s .pre .3) (told (c .before .before .before .before))
 
 pub layer-spec : {M : Type 1} → statement M
 layer-spec =
-    tie.close (tie.spec seen-at-requires (λ c κs. search needs) seen-at-requires-2 seen-at-requires-3 (λ c. search needs) returns)
+    tie.close (tie.spec (λ c. refl) faulty-layer-requires (λ c. sym (c .before .before .faulty-layer .ensures .size)) over-requires (λ c. c .before .before .over .ensures .0) returns)
