@@ -1,6 +1,6 @@
 // The offered set at the start of a route, from a sweep that begins at its end.
 use crate::Ways;
-use crate::bits::layer;
+use crate::bits::over;
 use crate::bits::seeded;
 use crate::boxes::between;
 use crate::signed::difference;
@@ -9,6 +9,7 @@ use mesh::Place;
 use mesh::Sizes;
 use paths::Wanted;
 use rows::Between;
+use rows::layer::faulty_layer;
 ghost use mathlib.Core.Path.{_≡_};
 ghost use mathlib.Core.Bool.{not, _||_};
 ghost use Prim.Native.Nat.{_+_, _≤_, _<_};
@@ -27,10 +28,12 @@ fn ways(s: Sizes, cells: &[u8], g: Between) -> Ways
 {
     let n = g.z.steps + 1;
     let mut rows = seeded();
+    let mut faulty = [0u16; 16];
     let mut w = Ways { x: 0, y: 0, z: 0 };
     let mut c = 0;
     while c < n {
-        w = layer(s, cells, g, c, &mut rows);
+        faulty_layer(s, cells, g, c, &mut faulty);
+        w = over(g, c, &faulty, &mut rows);
         c += 1;
     }
     w

@@ -1,5 +1,5 @@
 -- `sweeps::offers::ways` meets its contract: layer after layer. Assumes nothing.
-use mathlib.Core.Path.{_≡_, sym, _∙_}
+use mathlib.Core.Path.{_≡_, refl, sym, _∙_}
 use Prim.Native.Nat.{_+_, _-_, _≤_}
 use native.Mathlib.Omega.{arith}
 use borrow.Author.Needs.{needs}
@@ -7,18 +7,18 @@ use lib.ListN.{length}
 use denote.Ref.{now}
 use Rattle.mesh.specs.Mesh.{Inside}
 use Rattle.mesh.specs.Cells.{mapOf}
-use Rattle.rows.specs.Box.{largest, far}
+use Rattle.rows.specs.Box.{largest, far, FaultyRows}
 use Rattle.rows.proofs.Box.{far-in}
 use Rattle.sweeps.specs.Sweep.{After, WaysAfter}
-use Rattle.sweeps.proofs.RowSweep.{after-none, after-more, ways-more, ways-all}
+use Rattle.sweeps.proofs.RowSweep.{rows-ready, after-none, after-more, ways-more, ways-all}
 use Rattle.sweeps.proofs.offers.ways.Statement.{statement}
 use Rattle.sweeps.proofs.offers.ways.Tie as tie
 
 abbrev Inv-loop : tie.InvT-loop
-Inv-loop s cells g n rows₀ w₀ c₀ rows w c = (c ≤ n) × (length rows ≡ 16) × After (mapOf s cells) g c rows × WaysAfter (mapOf s cells) g c w
+Inv-loop s cells g n rows₀ faulty₀ w₀ c₀ rows faulty w c = (c ≤ n) × (length rows ≡ 16) × (length faulty ≡ 16) × After (mapOf s cells) g c rows × WaysAfter (mapOf s cells) g c w
 
 abbrev μ-loop : tie.MeasureT-loop
-μ-loop s cells g n rows₀ w₀ c₀ rows w c = n - c
+μ-loop s cells g n rows₀ faulty₀ w₀ c₀ rows faulty w c = n - c
 
 small : (c : tie.Start Inv-loop μ-loop) → Inside largest (far (c .args .g))
 small c = let r = c .pre .0 in far-in (c .args .s) (c .args .g) (r .sized) (r .held)
@@ -33,35 +33,57 @@ loop-holds c =
     let t = small s in (
       omega arith,
       rw (c .seeded .ensures),
+      refl,
       after-none (mapOf (a .s) (now (a .cells))) (a .g) (c .seeded .result) (omega arith) (c .seeded .ensures),
       λ h. absurd (omega arith),
     )
 
-layer-requires : tie.Need-layer-requires Inv-loop μ-loop
-layer-requires c κs = let s = c .before .before .before .before .before .before in (s .pre .0, s .pre .1, c .before .before .loop .inv .1, omega arith)
+faulty-layer-requires : tie.Need-faulty-layer-requires Inv-loop μ-loop
+faulty-layer-requires c κs =
+    let s = c .before .before .before .before .before .before in
+    (s .pre .0, s .pre .1, omega arith, omega (arith, small s, c .before .before .loop .inv .2))
+
+-- what the layer's faulty nodes are
+told : (c : tie.After-faulty3 Inv-loop μ-loop) → let a = c .before .before .before .before .before .before .before .before .before .args in
+    FaultyRows (mapOf (a .s) (now (a .cells))) (a .g) (c .before .before .before .before .before .loop .c) (c .before .before .faulty-layer .last .1 .1 .1 .1 .0)
+told c b h = c .before .before .faulty-layer .ensures .at b (omega arith)
+
+given : (c : tie.After-faulty3 Inv-loop μ-loop) → length (c .before .before .faulty-layer .last .1 .1 .1 .1 .0) ≡ 16
+given c = c .before .before .faulty-layer .ensures .size ∙ c .before .before .before .before .before .loop .inv .2
+
+over-requires : tie.Need-over-requires Inv-loop μ-loop
+over-requires c κs =
+    let l = c .before .before .before .before .before .before .loop in
+    let s = c .before .before .before .before .before .before .before .before .before .before in
+    let a = s .args in
+    rows-ready (mapOf (a .s) (now (a .cells))) (a .g) (l .c) (c .before .before .before .faulty-layer .last .1 .1 .1 .1 .0) (l .rows) (s .pre .0) (told (c .before)) (given (c .before))
+    (l .inv .1)
 
 add-c : tie.Need-add-c Inv-loop μ-loop
-add-c c = omega (arith, small (c .before .before .before .before .before .before .before .before))
+add-c c = omega (arith, small (c .before .before .before .before .before .before .before .before .before .before .before .before))
 
 loop-again : tie.Need-loop-again Inv-loop μ-loop
 loop-again c =
-    let a = c .before .before .before .before .before .before .before .before .args in
-    let l = c .before .before .before .before .loop in
-    let y = c .before .layer in
-    let m = mapOf (a .s) (now (a .cells)) in (
+    let a = c .before .before .before .before .before .before .before .before .before .before .before .before .args in
+    let l = c .before .before .before .before .before .before .before .before .loop in
+    let f = c .before .before .before in
+    let m = mapOf (a .s) (now (a .cells)) in
+    let rows = c .before .over .last .1 .1 .1 .0 in
+    let L = c .before .over .ensures .1 m (omega arith) (told f) in (
       omega arith,
-      y .ensures .over .size ∙ l .inv .1,
-      after-more m (a .g) (l .c) (l .c + 1) (l .rows) (y .last .1 .1 .1 .1 .0) (y .ensures .over) (l .inv .2),
-      ways-more m (a .g) (l .c) (l .rows) (y .last .1 .1 .1 .1 .0) (y .result) (y .ensures) (l .inv .2),
+      c .before .over .ensures .0 ∙ l .inv .1,
+      given f,
+      after-more m (a .g) (l .c) (l .c + 1) (l .rows) rows (L .over) (l .inv .3),
+      ways-more m (a .g) (l .c) (l .rows) rows (c .before .over .result) L (l .inv .3),
     )
 
 returns : tie.Need-returns Inv-loop μ-loop
 returns c =
     let l = c .before .loop in
     let a = c .before .before .before .before .before .args in
-    ways-all (mapOf (a .s) (now (a .cells))) (a .g) (l .c) (l .w) (omega arith) (l .inv .3)
+    ways-all (mapOf (a .s) (now (a .cells))) (a .g) (l .c) (l .w) (omega arith) (l .inv .4)
 
 pub ways-spec : {M : Type 1} → statement M
 ways-spec =
-    tie.close (tie.spec Inv-loop μ-loop add-n (λ c κs. search needs) loop-holds (λ c. sym (c .before .before .loop .inv .1)) layer-requires add-c (λ c. omega arith)
-    loop-again returns)
+    tie.close (tie.spec Inv-loop μ-loop add-n (λ c κs. search needs) loop-holds (λ c. sym (c .before .before .loop .inv .2)) faulty-layer-requires (λ c. sym (given c))
+    (λ c. sym (c .before .before .before .before .before .before .loop .inv .1)) over-requires add-c (λ c. omega arith) loop-again returns)
