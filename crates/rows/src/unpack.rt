@@ -1,7 +1,7 @@
 // A row of bits to bytes: bit k is that of the node k steps on. Eight bytes are one word, in which no sum of two bytes goes over into the next.
 ghost use mathlib.Core.Path.{_≡_};
 ghost use mathlib.Core.Bool.{true, false};
-ghost use Prim.Native.Nat.{_+_, _*_, _/_, _%_, _^_, _≤_, _<_};
+ghost use Prim.Native.Nat.{ℕ, _+_, _*_, _/_, _%_, _^_, _≤_, _<_};
 ghost use lib.ListN.{length, getD};
 ghost use Rattle.mesh.specs.Tools.{bit};
 ghost use Rattle.mesh.specs.Fill.{Filled};
@@ -63,25 +63,23 @@ fn at(from: usize, k: usize, down: bool) -> usize
     from + k
 }
 
-// The first of eight nodes in the order of their numbers.
-fn lowest(from: usize, down: bool) -> usize
-    requires { ⌜ (down ≡ true → 7 ≤ from) ⌝ }
-    ensures { λ r. ⌜ r ≡ onwards down from (turned down 0) ⌝ }
+// Of eight nodes, from the one k steps on, the first in the order of their numbers.
+fn lowest(from: usize, k: usize, down: bool) -> usize
+    requires { ⌜ (down ≡ true → k + 7 ≤ from) × (down ≡ false → from + k < 2 ^ 64) ⌝ }
+    ensures { λ r. ⌜ r ≡ onwards down from (k + turned down 0) ⌝ }
 {
     if down {
-        return from - 7;
+        return from - (k + 7);
     }
-    from
+    from + k
 }
 
-// Adds v to the byte of each of eight nodes, from one on, whose bit is 1.
-fn eight(bits: u16, v: u8, out: &mut [u8], from: usize, down: bool)
-    requires { ⌜ (bits < 256) × Span (now out) down from 8 × Takes (now out) down from 8 v ⌝ }
-    ensures { λ _. ⌜ Added (now (out .entry)) (now (out .exit)) down from 8 bits v ⌝ }
+// The bytes of eight nodes as one word, v added where the bit is 1.
+fn eight(bits: u16, v: u8, out: &[u8], p: usize, down: bool) -> u64
+    requires { ⌜ (bits < 256) × (p + 8 ≤ length (now out)) × ((k : ℕ) → k < 8 → getD (now out) (p + k) 0 + v ≤ 255) ⌝ }
+    ensures { λ r. ⌜ r ≡ joined (λ k. getD (now (out .entry)) (p + k) 0 + v * bit (bitAt bits (turned down k))) 8 ⌝ }
 {
-    let p = lowest(from, down);
-    let x = word(out, p) + v as u64 * spread(bits as u64, down);
-    put(x, out, p);
+    word(out, p) + v as u64 * spread(bits as u64, down)
 }
 
 // w nodes, one by one.
@@ -97,15 +95,20 @@ fn few(bits: u16, v: u8, out: &mut [u8], from: usize, w: usize, down: bool)
     }
 }
 
-// Adds v to the byte of each of w nodes, from one on, whose bit is 1.
+// Adds v to the byte of each of w nodes, from one on, whose bit is 1: the first eight and the last eight, which may meet. Both are read before one is
+// written: so v is added once where they meet, and no read waits for a write.
 pub fn add_row(bits: u16, v: u8, out: &mut [u8], from: usize, w: usize, down: bool)
-    requires { ⌜ Span (now out) down from w × Takes (now out) down from w v ⌝ }
+    requires { ⌜ (w ≤ 16) × Span (now out) down from w × Takes (now out) down from w v ⌝ }
     ensures { λ _. ⌜ Added (now (out .entry)) (now (out .exit)) down from w bits v ⌝ }
 {
-    if w == 16 {
-        eight(bits % 256, v, out, from, down);
-        eight(bits / 256, v, out, at(from, 8, down), down);
+    if w < 8 {
+        few(bits, v, out, from, w, down);
         return;
     }
-    few(bits, v, out, from, w, down);
+    let p = lowest(from, 0, down);
+    let q = lowest(from, w - 8, down);
+    let x = eight(bits % 256, v, out, p, down);
+    let y = eight((bits >> (w - 8)) % 256, v, out, q, down);
+    put(y, out, q);
+    put(x, out, p);
 }

@@ -33,6 +33,7 @@ add-row-requires c κs =
     let a = s .args in
     let hb : l .b ≤ a .g .y .steps = omega arith in
     rw (c .node .ensures .0) (
+      omega (arith, small s),
       turn-span (a .s) (a .g) (a .c) (s .pre .2) (l .b) hb (now (a .out)) (s .pre .0) (a .v) (now (a .rows)) (l .out) (l .inv .1),
       turn-room (a .s) (a .g) (a .c) (s .pre .2) (l .b) hb (now (a .out)) (s .pre .0) (a .v) (now (a .rows)) (l .out) (l .inv .1) (s .pre .3),
     )
