@@ -1,16 +1,14 @@
 // The sweep by rows: bit a of row b is 1 if the node a and b steps away is seen. Each layer goes over the one before, in sixteen numbers.
 use crate::Ways;
-use mesh::Sizes;
 use rows::Between;
 use rows::full;
-use rows::layer::faulty_layer;
 use rows::sweep_row;
 ghost use mathlib.Core.Path.{_≡_};
 ghost use Prim.Native.Nat.{ℕ, _+_, _≤_, _<_};
 ghost use Rattle.mesh.specs.Tools.{bit};
 ghost use lib.ListN.{length};
-ghost use Rattle.mesh.specs.Cells.{Map, mapOf};
-ghost use Rattle.rows.specs.Box.{FaultyRows, Good, Ready};
+ghost use Rattle.mesh.specs.Cells.{Map};
+ghost use Rattle.rows.specs.Box.{FaultyRows};
 ghost use Rattle.sweeps.specs.Sweep.{Layers, Layer, Rows, seed, seenAt};
 
 // Layer c, with these faulty nodes, over the layer before it. The corner is seen by itself, whether or not it may be passed.
@@ -54,7 +52,7 @@ pub fn seen_at(rows: &[u16], left: usize, a: usize, x: usize, b: usize, y: usize
 }
 
 // The same, and the ways into the layer's last node. The layer before is read where this one goes over it.
-pub(crate) fn over(g: Between, c: usize, faulty: &[u16], rows: &mut [u16]) -> Ways
+pub fn over(g: Between, c: usize, faulty: &[u16], rows: &mut [u16]) -> Ways
     requires { ⌜ Rows g (now faulty) (now rows) ⌝ }
     ensures { λ r. ⌜ (length (now (rows .exit)) ≡ length (now (rows .entry)))
         × ((m : Map) → c ≤ g .z .steps → FaultyRows m g c (now (faulty .entry)) → Layer m g c (now (rows .entry)) (now (rows .exit)) r) ⌝ }
@@ -68,14 +66,4 @@ pub(crate) fn over(g: Between, c: usize, faulty: &[u16], rows: &mut [u16]) -> Wa
         y: seen_at(rows, b, a, 0, b, 1),
         z,
     }
-}
-
-// Layer c of a map, over the layer before it, and the ways into its last node.
-pub fn layer(s: Sizes, cells: &[u8], g: Between, c: usize, rows: &mut [u16]) -> Ways
-    requires { ⌜ Ready s (now cells) g × Good s (now cells) × (length (now rows) ≡ 16) × (c ≤ g .z .steps) ⌝ }
-    ensures { λ r. ⌜ Layer (mapOf s (now (cells .entry))) g c (now (rows .entry)) (now (rows .exit)) r ⌝ }
-{
-    let mut faulty = [0u16; 16];
-    faulty_layer(s, cells, g, c, &mut faulty);
-    over(g, c, &faulty, rows)
 }

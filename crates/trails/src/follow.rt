@@ -4,8 +4,9 @@ use mesh::Place;
 use mesh::Refusal;
 use mesh::Sizes;
 use rows::Between;
+use rows::layer::faulty_layer;
 use sweeps::Ways;
-use sweeps::bits::layer;
+use sweeps::bits::over;
 use sweeps::bits::seeded;
 use sweeps::bits::seen_at;
 use sweeps::boxes::between;
@@ -45,10 +46,12 @@ fn lay_all(s: Sizes, cells: &[u8], g: Between, table: &mut [u16]) -> Ways
 {
     let n = g.z.steps + 1;
     let mut rows = seeded();
+    let mut faulty = [0u16; 16];
     let mut w = Ways { x: 0, y: 0, z: 0 };
     let mut c = 0;
     while c < n {
-        w = layer(s, cells, g, c, &mut rows);
+        faulty_layer(s, cells, g, c, &mut faulty);
+        w = over(g, c, &faulty, &mut rows);
         lay(c, &rows, table);
         c += 1;
     }

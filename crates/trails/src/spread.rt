@@ -3,8 +3,9 @@ use mesh::Place;
 use mesh::Sizes;
 use rows::Between;
 use rows::layer::add_layer;
+use rows::layer::faulty_layer;
 use sweeps::Ways;
-use sweeps::bits::layer;
+use sweeps::bits::over;
 use sweeps::bits::seeded;
 use sweeps::boxes::between;
 use sweeps::offers::leads_on;
@@ -29,10 +30,12 @@ fn spread(s: Sizes, cells: &[u8], g: Between, bytes: &mut [u8]) -> Ways
 {
     let n = g.z.steps + 1;
     let mut rows = seeded();
+    let mut faulty = [0u16; 16];
     let mut w = Ways { x: 0, y: 0, z: 0 };
     let mut c = 0;
     while c < n {
-        w = layer(s, cells, g, c, &mut rows);
+        faulty_layer(s, cells, g, c, &mut faulty);
+        w = over(g, c, &faulty, &mut rows);
         add_layer(s, g, c, &rows, 1, bytes);
         c += 1;
     }
