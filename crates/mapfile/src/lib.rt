@@ -1,7 +1,6 @@
 // The map file: its reader and its writer.
 
 pub mod reader;
-pub mod storing;
 pub mod writer;
 
 // The bytes that end every map file.

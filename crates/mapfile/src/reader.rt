@@ -2,12 +2,12 @@
 use crate::FILE_LIMIT;
 use crate::MARK;
 use crate::TRAILER;
-use crate::storing::put;
 use format::MapRead;
 use maps::check_map;
 use mesh::Answer;
 use mesh::Refusal;
 use mesh::Sizes;
+use octets::put;
 ghost use mathlib.Core.Path.{_≡_};
 ghost use Prim.Native.Nat.{_+_, _-_, _≤_, _<_};
 ghost use lib.ListN.{length, take, drop};

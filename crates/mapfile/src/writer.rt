@@ -1,12 +1,12 @@
 // Writing a map file.
 use crate::MARK;
 use crate::TRAILER;
-use crate::storing::put;
 use maps::check_map;
 use mesh::Answer;
 use mesh::Numbered;
 use mesh::Refusal;
 use mesh::Sizes;
+use octets::put;
 ghost use mathlib.Core.Path.{_≡_};
 ghost use lib.ListN.{length};
 ghost use Rattle.mesh.specs.Mesh.{InRange};

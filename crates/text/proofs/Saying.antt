@@ -1,12 +1,11 @@
 -- Words said one after the other are said together. Assumes nothing.
 use mathlib.Core.Path.{_≡_, sym, ap, _∙_, subst}
-use mathlib.Core.List.{List, [], _++_, append-nil}
+use mathlib.Core.List.{List, [], _++_}
 use Prim.Native.Nat.{ℕ, _+_, _≤_}
-use native.Mathlib.Nat.{add-zero}
 use native.Mathlib.Omega.{arith}
-use lib.ListN.{length, take, drop, length-append, take-append-drop}
-use Rattle.mapfile.specs.Stored.{stored}
-use Rattle.mapfile.proofs.Stored.{length-stored, stored-next}
+use lib.ListN.{length, length-append}
+use Rattle.octets.specs.Stored.{stored}
+use Rattle.octets.proofs.Stored.{length-stored, stored-next, stored-none}
 use Rattle.text.specs.Text.{Said}
 
 module _ {old : List ℕ} {at : ℕ} {word new : List ℕ} {next : ℕ} (fits : at + length word ≤ length old) (s : Said old at word new next) where
@@ -25,14 +24,7 @@ module _ {old : List ℕ} {at : ℕ} {word new : List ℕ} {next : ℕ} (fits : 
       }
 
 pub said-none : (old : List ℕ) (at : ℕ) → Said old at [] old at
-said-none old at =
-    record {
-      place = omega arith;
-      bytes =
-          sym (ap (λ (k : ℕ). take at old ++ [] ++ drop k old) (add-zero at)
-          ∙ ap (λ (l : List ℕ). l ++ drop at old) (append-nil (take at old))
-          ∙ take-append-drop at old);
-    }
+said-none old at = record { place = omega arith; bytes = sym (stored-none old at) }
 
 -- the same words, otherwise written
 pub said-as : {old : List ℕ} {at : ℕ} {word other new : List ℕ} {next : ℕ} → word ≡ other → Said old at word new next → Said old at other new next

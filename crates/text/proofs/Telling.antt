@@ -1,14 +1,15 @@
 -- A form told byte by byte: nothing yet, a number or a byte more, and all of it. Assumes nothing.
-use mathlib.Core.Path.{_≡_, refl, sym, ap, _∙_}
+use mathlib.Core.Path.{_≡_, refl, sym, _∙_}
 use mathlib.Core.Bool.{false}
-use mathlib.Core.List.{List, [], _∷_, _++_, append-assoc}
+use mathlib.Core.List.{List, [], _∷_, _++_}
 use mathlib.Core.Logic.{_⊎_, inl, inr}
 use Prim.Native.Nat.{ℕ, suc, _+_, _*_, _≤_, _<_}
 use native.Mathlib.Numerals.{add-one}
 use native.Mathlib.Omega.{arith}
 use lib.Dec.{eqb}
-use lib.ListN.{length, getD, set, take, drop, drop-of-length-le, length-set}
-use lib.Seq.{drop-cons, drop-length, set-split}
+use lib.ListN.{length, getD, set, drop, drop-of-length-le, length-set}
+use lib.Seq.{drop-cons, drop-length}
+use Rattle.octets.proofs.Stored.{stored-one}
 use Rattle.text.specs.Text.{decimal, told, Said}
 use Rattle.text.proofs.Decimal.{length-decimal}
 use Rattle.text.proofs.Saying.{said-none, said-next, said-size, said-as}
@@ -41,11 +42,7 @@ module _ (form numbers : List ℕ) (i j : ℕ) (in-form : i < length form) where
 
 -- one byte stored is one byte said
 said-byte : (old : List ℕ) (at b : ℕ) → at < length old → Said old at (b ∷ []) (set old at b) (at + 1)
-said-byte old at b h =
-    record {
-      place = omega arith;
-      bytes = set-split old at b h ∙ sym (append-assoc (take at old) (b ∷ []) (drop (suc at) old)) ∙ ap (λ (n : ℕ). take at old ++ (b ∷ []) ++ drop n old) (sym (add-one at));
-    }
+said-byte old at b h = record { place = omega arith; bytes = sym (stored-one old at b h) }
 
 -- i bytes of a form have been told, with j numbers: with what is left of it, the form is told
 pub record Telling (form numbers old : List ℕ) (at i j : ℕ) (new : List ℕ) (next : ℕ) : Type 0 where

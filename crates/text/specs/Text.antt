@@ -7,7 +7,7 @@ use Prim.Native.Char.{code}
 use Prim.Native.String.{String, [] as none, _∷_ as _then_}
 use lib.Dec.{eqb, ltb}
 use lib.ListN.{length}
-use Rattle.mapfile.specs.Stored.{stored}
+use Rattle.octets.specs.Stored.{stored}
 
 -- the bytes of a word
 abbrev pub ascii : String → List ℕ

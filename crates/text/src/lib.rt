@@ -1,7 +1,7 @@
 // Text into lent bytes: words, numbers in decimal, and forms with numbers in them.
 pub mod running;
 
-use mapfile::storing::put;
+use octets::put;
 ghost use Prim.Native.Nat.{_+_, _*_, _≤_};
 ghost use lib.ListN.{length};
 ghost use Rattle.text.specs.Text.{decimal, told, nameLine, Said};

@@ -14,7 +14,7 @@ use Rattle.format.specs.Entry.{readCheck, readWritten}
 use Rattle.format.specs.Promise.{readChecks}
 use Rattle.format.proofs.Order.{read-passes}
 use Rattle.format.proofs.Refusals.{not-read, is-read, cells-part, cells-size}
-use Rattle.mapfile.specs.Stored.{stored}
+use Rattle.octets.specs.Stored.{stored}
 use Rattle.mapfile.proofs.Stored.{read-stored}
 use Rattle.mapfile.proofs.reader.read_map.Statement.{statement}
 use Rattle.mapfile.proofs.reader.read_map.Tie as tie

@@ -13,7 +13,7 @@ use Rattle.mesh.proofs.Answers.{kept}
 use Rattle.format.specs.Format.{trailer}
 use Rattle.format.specs.Entry.{writeCheck, writeWritten}
 use Rattle.format.proofs.Refusals.{not-written, is-written, write-says}
-use Rattle.mapfile.specs.Stored.{stored}
+use Rattle.octets.specs.Stored.{stored}
 use Rattle.mapfile.proofs.Stored.{write-stored}
 use Rattle.mapfile.proofs.writer.write_map.Statement.{statement}
 use Rattle.mapfile.proofs.writer.write_map.Tie as tie
