@@ -1,6 +1,5 @@
 pub mod Order
 pub mod Refusals
-pub mod Bytes
 pub mod Reading
 pub mod Read
 pub mod Writing

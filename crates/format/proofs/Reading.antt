@@ -2,7 +2,7 @@
 use mathlib.Core.Path.{_≡_, refl, sym, ap, _∙_, subst}
 use mathlib.Core.Logic.{_↔_}
 use mathlib.Core.List.{List, [], _∷_, _++_}
-use Prim.Native.Nat.{ℕ, _+_, _-_, _<_, _≤_}
+use Prim.Native.Nat.{ℕ, _+_, _-_, _≤_}
 use native.Mathlib.Omega.{arith}
 use lib.ListN.{length, getD, take, drop, length-append, length-drop, take-append-drop}
 use lib.Seq.{ext-getD, getD-drop, drop-drop, getD-append-add, take-at, drop-at}
@@ -16,17 +16,18 @@ use Rattle.mesh.specs.declared.Answer.the-variants.{Done, Refused}
 use Rattle.mesh.proofs.Tables.{length-table, getD-table}
 use Rattle.mesh.proofs.Numbers.{nodes-le}
 use Rattle.mesh.proofs.Order.{not-zero}
-use Rattle.format.specs.Format.{fileMark, fileLimit, fourBytes, distance, trailer, fileOf, MapFile}
+use Rattle.octets.specs.LittleEndian.{fourBytes}
+use Rattle.octets.proofs.LittleEndian.{bytes-of, number-back}
+use Rattle.format.specs.Format.{fileMark, fileLimit, distance, trailer, fileOf, MapFile}
 use Rattle.format.specs.Format.{trailerAt, sizesIn, distanceIn, cellsIn}
 use Rattle.format.specs.Entry.{mapRead, mapReadNo, mapReadSizes, readCheck, readAnswer, readWritten, readOut}
-use Rattle.format.specs.Promise.{Framed, Reaches, readChecks}
+use Rattle.format.specs.Promise.{Framed, Reaches, readChecks, Bytes}
 use Rattle.format.proofs.Order.{read-passes}
 use Rattle.format.proofs.Refusals.{cells-size}
-use Rattle.format.proofs.Bytes.{bytes-of, number-back}
 
 -- ---- a file that is read is a map file
 
-module _ (file : List ℕ) (bytes : (i : ℕ) → getD file i 0 < 256) (f : Framed file) (r : Reaches file) where
+module _ (file : List ℕ) (bytes : Bytes file) (f : Framed file) (r : Reaches file) where
   abbrev S : Sizes
   S = sizesIn file
 
@@ -138,7 +139,7 @@ module _ (file : List ℕ) {S : Sizes} {cells : List ℕ} (f : MapFile S cells f
       read-passes file room .1 (subst (λ (l : List ℕ). AllPass (readChecks l room)) (sym (f .parts)) all)
 
 -- "what is read is what the trailer says": reading grants S exactly where the file is one of S, notes and cells and trailer, and there is room
-pub read-exactly : (file : List ℕ) → ((i : ℕ) → getD file i 0 < 256) → (room : ℕ) (S : Sizes)
+pub read-exactly : (file : List ℕ) → Bytes file → (room : ℕ) (S : Sizes)
     → ((mapReadNo (readAnswer file room) ≡ 0) × (mapReadSizes (readAnswer file room) ≡ S))
     ↔ ((cells : List ℕ) × MapFile S cells file × (nodes S ≤ room))
 unfolding readAnswer

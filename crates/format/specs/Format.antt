@@ -2,13 +2,14 @@
 use mathlib.Core.Bool.{Bool}
 use mathlib.Core.List.{List, [], _∷_, _++_}
 use mathlib.Core.Path.{_≡_}
-use Prim.Native.Nat.{ℕ, _+_, _-_, _*_, _/_, _%_, _≤_}
+use Prim.Native.Nat.{ℕ, _+_, _-_, _≤_}
 use lib.ListN.{length, getD, take, drop}
 use lib.Dec.{eqb}
 use Rattle.mesh.specs.Tools.{all}
 use Rattle.mesh.specs.Mesh.{sizes, nodes}
 use Rattle.mesh.specs.Order.{InOrder}
 use Rattle.mesh.specs.declared.Sizes.{Sizes}
+use Rattle.octets.specs.LittleEndian.{fourBytes, littleEndian}
 
 -- "the four bytes 46 4C 44 31 hexadecimal"
 abbrev pub fileMark : List ℕ
@@ -20,13 +21,6 @@ trailerLength = 12
 
 abbrev pub fileLimit : ℕ
 fileLimit = 65536
-
--- a "little-endian 32-bit" number: its bytes, and the number of four bytes
-abbrev pub fourBytes : ℕ → List ℕ
-fourBytes n = n % 256 ∷ n / 256 % 256 ∷ n / 65536 % 256 ∷ n / 16777216 % 256 ∷ []
-
-abbrev pub littleEndian : ℕ → ℕ → ℕ → ℕ → ℕ
-littleEndian a b c d = a + 256 * (b + 256 * (c + 256 * d))
 
 -- "distance from the file's end back to the first cell (N + 12)"
 abbrev pub distance : Sizes → ℕ

@@ -7,6 +7,7 @@ use maps::check_map;
 use mesh::Answer;
 use mesh::Refusal;
 use mesh::Sizes;
+use octets::little_endian;
 use octets::put;
 ghost use mathlib.Core.Path.{_≡_};
 ghost use Prim.Native.Nat.{_+_, _-_, _≤_, _<_};
@@ -52,11 +53,12 @@ fn distance_in(file: &[u8]) -> usize
     requires { ⌜ 12 ≤ length (now file) ⌝ }
     ensures { λ r. ⌜ r ≡ distanceIn (now (file .entry)) ⌝ }
 {
-    let a = trailer_at(file, 4) as usize;
-    let b = trailer_at(file, 5) as usize;
-    let c = trailer_at(file, 6) as usize;
-    let d = trailer_at(file, 7) as usize;
-    a + 256 * (b + 256 * (c + 256 * d))
+    little_endian(
+        trailer_at(file, 4),
+        trailer_at(file, 5),
+        trailer_at(file, 6),
+        trailer_at(file, 7),
+    )
 }
 
 // The n bytes that end where the trailer begins.

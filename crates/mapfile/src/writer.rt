@@ -6,6 +6,7 @@ use mesh::Answer;
 use mesh::Numbered;
 use mesh::Refusal;
 use mesh::Sizes;
+use octets::four_bytes;
 use octets::put;
 ghost use mathlib.Core.Path.{_≡_};
 ghost use lib.ListN.{length};
@@ -18,16 +19,16 @@ fn trailer(s: Sizes) -> [u8; 12]
     requires { ⌜ InRange s ⌝ }
     ensures { λ r. ⌜ r ≡ trailer s ⌝ }
 {
-    let n = s.nodes() + TRAILER;
+    let distance = four_bytes(s.nodes() + TRAILER);
     [
         s.w as u8,
         s.h as u8,
         s.d as u8,
         0,
-        (n % 256) as u8,
-        (n / 256 % 256) as u8,
-        (n / 65536 % 256) as u8,
-        (n / 16777216 % 256) as u8,
+        distance[0],
+        distance[1],
+        distance[2],
+        distance[3],
         MARK[0],
         MARK[1],
         MARK[2],

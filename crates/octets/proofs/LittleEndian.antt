@@ -4,7 +4,7 @@ use mathlib.Core.List.{[], _∷_}
 use Prim.Native.Nat.{ℕ, _+_, _*_, _/_, _%_, _<_}
 use native.Mathlib.Omega.{arith}
 use native.Mathlib.Nat.{div-div-eq-div-mul, mod-add-div, mod-eq-of-lt}
-use Rattle.format.specs.Format.{fourBytes, littleEndian}
+use Rattle.octets.specs.LittleEndian.{fourBytes, littleEndian}
 
 -- the first byte, and the number of the others
 low : (a r : ℕ) → a < 256 → (a + 256 * r) % 256 ≡ a
