@@ -35,7 +35,7 @@ use Rattle.talk.proofs.Same.{works-word}
 use Rattle.talk.proofs.Hear.{added-word}
 use Rattle.talk.proofs.Calls.{state-passed, numbers-passed, hear-passed}
 use Rattle.states.proofs.Fitting.{fits-word}
-use Rattle.scans.proofs.Scanned.{word-heard, quick-is}
+use Rattle.states.proofs.Heard.{word-heard, quick-is}
 
 -- ---- the checks
 

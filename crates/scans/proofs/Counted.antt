@@ -8,19 +8,19 @@ use Prim.Native.Nat.{ℕ, _<_}
 use lib.Dec.{T, eqb}
 use borrow.Author.Tests.{eq-eqb}
 use Rattle.mesh.specs.Tools.{bit, sum, count}
-use Rattle.mesh.specs.Mesh.{nodes, number, placeOf}
-use Rattle.mesh.specs.Cells.{Map, wall}
-use Rattle.rules.specs.Marks.{readBy}
+use Rattle.mesh.specs.Mesh.{nodes}
+use Rattle.mesh.specs.Cells.{Map}
 use Rattle.mesh.specs.declared.Sizes.{Sizes}
 use Rattle.mesh.proofs.Tests.{T-no, tried, holds-true, cond-true, cond-false}
 use Rattle.mesh.proofs.Tables.{sum-same, sum-zero}
 use Rattle.talk.specs.State.{own, heard, mapIn, faultyNode, worksNode, pair, says}
 use Rattle.talk.specs.Sound.{Sound}
 use Rattle.talk.specs.Hear.{news, outstandingOn, outstanding}
-use Rattle.states.specs.Six.{shows}
+use Rattle.states.specs.Six.{aroundAt, around, shows}
 use Rattle.scans.specs.Scan.{nodeNews}
 use Rattle.talk.proofs.State.{faulty-in, pair-talks, speaker-is}
 use Rattle.talk.proofs.Exact.{reads}
+use Rattle.states.proofs.Around.{shows-read}
 
 no-pair : (a b : Bool) → (T a → ⊥) → 0 ≡ bit (a && b)
 no-pair true b f = absurd (f tt)
@@ -32,19 +32,14 @@ module _ (S : Sizes) (o : ℕ) (s : List ℕ) (z : Sound S o s) where
 
   -- a speaker shows its own byte
   shows-says : (k j : ℕ) → T (pair m k j) → shows S s k j ≡ says S s k j
-  unfolding shows
-  shows-says k j t =
-      let r = pair-talks m k j t in
-      ap (readBy m (λ q. own s (number S q)) (placeOf S k) j) (r .there)
-      ∙ cond-false (wall m (placeOf S k) j (r .speaker)) 1 (own s (number S (r .speaker))) (r .free)
-      ∙ ap (own s) (sym (speaker-is m k j r))
+  unfolding around
+  shows-says k j t = let r = pair-talks m k j t in ap (aroundAt S (own s)) (r .there) ∙ ap (own s) (sym (speaker-is m k j r))
 
   direction-same : (k j : ℕ) → k < nodes S → T (worksNode m k) → j < 6 → bit (not (eqb (shows S s k j) (heard s k j))) ≡ bit (news m s k j)
-  unfolding shows
   direction-same k j l w h = elim (tried (pair m k j)) [
     | inl t ↦ rw (shows-says k j t, holds-true (pair m k j) .0 t)
     | inr f ↦ elim (reads m o s z k j l w h) [
-      | inl e ↦ rw (eq-eqb (shows S s k j) (heard s k j) (sym e)) (no-pair (pair m k j) _ (T-no (pair m k j) .0 f))
+      | inl e ↦ rw (eq-eqb (shows S s k j) (heard s k j) (sym (e ∙ shows-read S s k j l))) (no-pair (pair m k j) _ (T-no (pair m k j) .0 f))
       | inr r ↦ absurd (T-no (pair m k j) .0 f (r .0))
     ]
   ]

@@ -1,8 +1,8 @@
 -- A state is sound exactly where every node passes its test. The tests take for granted that own bytes are 1 or words; a node whose own byte
 -- is neither passes no test. Assumes nothing.
-use mathlib.Core.Path.{_≡_, refl, sym, ap, _∙_, subst}
+use mathlib.Core.Path.{_≡_, refl, sym, ap, _∙_}
 use mathlib.Core.Logic.{inl, inr}
-use mathlib.Core.Bool.{Bool, true, false, cond, _&&_, _||_}
+use mathlib.Core.Bool.{Bool, true, false, cond, _&&_}
 use mathlib.Core.List.{List}
 use Prim.Native.Nat.{ℕ, _*_, _<_}
 use lib.Dec.{T, eqb}
@@ -12,7 +12,7 @@ use Rattle.mesh.specs.Tools.{all}
 use Rattle.mesh.specs.Mesh.{nodes, number, placeOf, Inside}
 use Rattle.mesh.specs.Steps.{next, reversed}
 use Rattle.mesh.specs.Cells.{Map, stateLength}
-use Rattle.rules.specs.Marks.{useless, cantReach, has, byteOf, isWord, rule, byteBlocks, ruleByte, readBy}
+use Rattle.rules.specs.Marks.{byteOf, isWord, rule, ruleByte}
 use Rattle.mesh.specs.declared.Sizes.{Sizes}
 use Rattle.mesh.specs.declared.Place.{Place}
 use Rattle.mesh.specs.declared.Next.{Next}
@@ -21,46 +21,19 @@ use Rattle.mesh.proofs.Tests.{T-and, T-or, T-eq, T-all, T-cond, all-same, tried
 use Rattle.mesh.proofs.Numbers.{number-lt, place-in}
 use Rattle.mesh.proofs.Steps.{next-in}
 use Rattle.mesh.proofs.Strides.{all-rows}
-use Rattle.rules.proofs.Bytes.{both, byte-word, word-cases, word-not-one}
+use Rattle.rules.proofs.Bytes.{both, byte-word, word-not-one}
 use Rattle.rules.proofs.ByteRule.{ruled-word}
 use Rattle.talk.specs.State.{own, heard, mapIn}
 use Rattle.talk.specs.Sound.{within, faultyHears, heardRight, workingRight, faultyRight, nodeRight, soundOn, sound}
-use Rattle.states.specs.Six.{isOwn, isHeard, fits, hinders, quickRule, shows}
+use Rattle.states.specs.Six.{isOwn, isHeard, fits, hinders, quickRule, aroundAt, around, shows}
 use Rattle.scans.specs.Scan.{nodeTest, rowTest}
 use Rattle.talk.proofs.State.{faulty-in, wall-in}
-use Rattle.states.proofs.Quick.{rule-by}
 use Rattle.states.proofs.Fitting.{fits-bare, fits-word}
-use Rattle.states.proofs.Shown.{read-at}
+use Rattle.states.proofs.Heard.{heard-cases, word-heard, quick-is}
 
 -- ---- bytes
 
--- what a working node may have heard
-heard-cases : (P : ℕ → Type 0) → P 8 → P 1 → ((b : ℕ) → T (isWord b) → P b) → (b : ℕ) → T (isHeard b) → P b
-unfolding isHeard isOwn
-heard-cases P x y f b t = elim (T-or (eqb b 8) (eqb b 1 || isWord b) .0 t) [
-  | inl e ↦ subst P (sym (T-eq b 8 .0 e)) x
-  | inr u ↦ elim (T-or (eqb b 1) (isWord b) .0 u) [ inl e ↦ subst P (sym (T-eq b 1 .0 e)) y | inr w ↦ f b w ]
-]
-
-pub word-heard : (b : ℕ) → T (isWord b) → T (isHeard b)
-unfolding isHeard isOwn
-word-heard b w = T-or (eqb b 8) (eqb b 1 || isWord b) .1 (inr (T-or (eqb b 1) (isWord b) .1 (inr w)))
-
-hinders-useless : (b : ℕ) → T (isHeard b) → hinders 2 b ≡ byteBlocks b useless
-unfolding hinders byteBlocks has
-hinders-useless = heard-cases (λ b. hinders 2 b ≡ byteBlocks b useless) refl refl
-    (word-cases (λ b. hinders 2 b ≡ byteBlocks b useless) refl refl refl refl)
-
-hinders-reach : (b : ℕ) → T (isHeard b) → hinders 4 b ≡ byteBlocks b cantReach
-unfolding hinders byteBlocks has
-hinders-reach = heard-cases (λ b. hinders 4 b ≡ byteBlocks b cantReach) refl refl
-    (word-cases (λ b. hinders 4 b ≡ byteBlocks b cantReach) refl refl refl refl)
-
--- the quick rule is the rule on such bytes, and gives a word on any
-pub quick-is : (S : Sizes) (o : ℕ) (h : ℕ → ℕ) → ((j : ℕ) → j < 6 → T (isHeard (h j))) → quickRule S o h ≡ ruleByte S o h
-unfolding quickRule
-quick-is S o h f = rule-by hinders S o h (λ j l. hinders-useless (h j) (f j l)) λ j l. hinders-reach (h j) (f j l)
-
+-- the quick rule gives a word on any bytes
 quick-word : (S : Sizes) (o : ℕ) (h : ℕ → ℕ) → T (isWord (quickRule S o h))
 unfolding quickRule byteOf
 quick-word S o h = byte-word (both (rule S o λ j. hinders 2 (h j)) (rule S (reversed o) λ j. hinders 4 (h j)))
@@ -129,26 +102,23 @@ module _ (S : Sizes) (o : ℕ) (s : List ℕ) where
     inside j q e = next-in S (placeOf S k) q (place-in S k l) j e
 
     side-same : (j : ℕ) → fits (shows S s k j) (heard s k j) ≡ heardRight m s k j (to k j)
-    unfolding shows
+    unfolding around
     side-same j = go (to k j) refl
       where
-        go : (n : Next) → to k j ≡ n → fits (readBy m (λ q. own s (number S q)) (placeOf S k) j n) (heard s k j) ≡ heardRight m s k j n
+        go : (n : Next) → to k j ≡ n → fits (aroundAt S (own s) n) (heard s k j) ≡ heardRight m s k j n
         go Edge e = fits-bare 8 (heard s k j) refl
         go (At q) e =
             let i = inside j q e in
-            rw (read-at S s (placeOf S k) j q i, wall-in S s (placeOf S k) j q i)
-            (fits-own (own s (number S q)) (heard s k j) (owns (number S q) (number-lt S q i)))
+            rw (wall-in S s (placeOf S k) j q i) (fits-own (own s (number S q)) (heard s k j) (owns (number S q) (number-lt S q i)))
 
     shows-heard : (j : ℕ) → T (isHeard (shows S s k j))
-    unfolding shows isHeard
+    unfolding around isHeard
     shows-heard j = go (to k j) refl
       where
-        go : (n : Next) → to k j ≡ n → T (isHeard (readBy m (λ q. own s (number S q)) (placeOf S k) j n))
+        go : (n : Next) → to k j ≡ n → T (isHeard (aroundAt S (own s) n))
         go Edge e = tt
-        go (At q) e =
-            let i = inside j q e in
-            rw (read-at S s (placeOf S k) j q i) (T-or (eqb (own s (number S q)) 8) (isOwn (own s (number S q))) .1
-            (inr (owns (number S q) (number-lt S q i))))
+        go (At q) e = T-or (eqb (own s (number S q)) 8) (isOwn (own s (number S q))) .1
+            (inr (owns (number S q) (number-lt S q (inside j q e))))
 
     told-same : all 6 (λ j. fits (shows S s k j) (heard s k j)) ≡ all 6 (λ j. heardRight m s k j (to k j))
     told-same = all-same 6 (λ j. fits (shows S s k j) (heard s k j)) (λ j. heardRight m s k j (to k j)) λ j h. side-same j

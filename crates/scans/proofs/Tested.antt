@@ -20,13 +20,10 @@ use Rattle.talk.specs.Sound.{faultyHears}
 use Rattle.states.specs.Six.{Bytes, six, ones, fits, quickRule, shows, _isBut255_}
 use Rattle.scans.specs.Scan.{nodeTest, nodeNews}
 use Rattle.states.proofs.Quick.{or-none, xor-none}
+use Rattle.states.proofs.Heard.{faulty-byte}
 use Rattle.states.proofs.Packed.{packed-eq, packed-and, packed-or, packed-xor, packed-sum, six-ones}
 
 module _ (S : Sizes) (o : ℕ) (s : List ℕ) (k : ℕ) (told : ℕ) (et : told ≡ six (heard s k)) (bt : Bytes (heard s k)) where
-  faulty-byte : (m : Map) (p : Place) (j : ℕ) → faultyHears m p j < 256
-  unfolding faultyHears
-  faulty-byte m p j = omega arith
-
   pub faulty-test : (v : ℕ) → ((m : Map) (p : Place) (j : ℕ) → v ≡ faultyHears m p j) → own s k ≡ 1 → eqb (bitXor told (v * ones)) 0
       ≡ nodeTest S o s k
   unfolding nodeTest

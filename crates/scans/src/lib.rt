@@ -5,57 +5,26 @@ use mesh::Place;
 use mesh::Refusal;
 use mesh::Sizes;
 use states::bytes::faulty_hears;
+use states::sides::around;
 use states::six::ONES;
 use states::six::heard;
 use states::six::ruled;
-use states::six::six;
 use states::six::some;
 ghost use mathlib.Core.Path.{_≡_};
-ghost use Prim.Native.Nat.{_+_, _*_, _<_, _≤_};
+ghost use Prim.Native.Nat.{_*_, _<_, _≤_};
 ghost use lib.Dec.{eqb};
 ghost use Rattle.mesh.specs.Mesh.{Inside, number};
 ghost use Rattle.mesh.specs.Answers.{numbered, unless};
 ghost use Rattle.mesh.specs.declared.Refusal.the-variants.{Unsound};
 ghost use Rattle.talk.specs.Sound.{sound};
 ghost use Rattle.talk.specs.Hear.{outstanding};
-ghost use Rattle.states.specs.Six.{Ready, Held, Near, Bytes, six, ones, _isBut255_, shownUp, shownDown, shows};
+ghost use Rattle.states.specs.Six.{Ready, ones, _isBut255_};
 ghost use Rattle.scans.specs.Scan.{nodeTest, rowTest, nodeNews, rowNews};
 
 // What is seen at a node, or in a row: 0 if all is right, and the words outstanding.
 pub struct Seen {
     pub wrong: u64,
     pub news: u64,
-}
-
-// What the neighbour with the next coordinate on an axis shows node k.
-fn shown_up(state: &[u8], k: usize, c: usize, n: usize, step: usize) -> u8
-    requires { ⌜ (c < n) × Near (Held (now state)) k c n step ⌝ }
-    ensures { λ r. ⌜ r ≡ shownUp (now (state .entry)) k c n step ⌝ }
-{
-    if c + 1 < n { state[7 * (k + step)] } else { 8 }
-}
-
-// And the one with the coordinate before.
-fn shown_down(state: &[u8], k: usize, c: usize, n: usize, step: usize) -> u8
-    requires { ⌜ Near (Held (now state)) k c n step ⌝ }
-    ensures { λ r. ⌜ r ≡ shownDown (now (state .entry)) k c step ⌝ }
-{
-    if 0 < c { state[7 * (k - step)] } else { 8 }
-}
-
-// What its neighbours show the node at p, whose number is k.
-fn shown(s: Sizes, state: &[u8], p: Place, k: usize) -> u64
-    requires { ⌜ Ready s (now state) × Inside s p × (k ≡ number s p) ⌝ }
-    ensures { λ r. ⌜ (r ≡ six (shows s (now (state .entry)) k)) × Bytes (shows s (now (state .entry)) k) ⌝ }
-{
-    let layer = s.w * s.h;
-    let x = shown_up(state, k, p.x, s.w, 1);
-    let back_x = shown_down(state, k, p.x, s.w, 1);
-    let y = shown_up(state, k, p.y, s.h, s.w);
-    let back_y = shown_down(state, k, p.y, s.h, s.w);
-    let z = shown_up(state, k, p.z, s.d, layer);
-    let back_z = shown_down(state, k, p.z, s.d, layer);
-    six(x, back_x, y, back_y, z, back_z)
 }
 
 // The node at p. The words outstanding come as a 1 for each direction.
@@ -67,7 +36,7 @@ fn node(s: Sizes, o: usize, state: &[u8], p: Place) -> Seen
     let k = s.number(p);
     let own = state[7 * k];
     let told = heard(state, k);
-    let said = shown(s, state, p, k);
+    let said = around(s, state, 7, p, k);
     let faulty = told ^ faulty_hears() as u64 * ONES;
     let sides = (told | said & 6 * ONES) ^ said;
     let wrong = own as u64 ^ ruled(s, o, told) as u64 | sides;

@@ -2,4 +2,5 @@ pub mod Quick
 pub mod Packed
 pub mod Beside
 pub mod Fitting
-pub mod Shown
+pub mod Around
+pub mod Heard

@@ -8,11 +8,13 @@ use lib.Dec.{eqb, ltb}
 use lib.ListN.{length, getD}
 use Rattle.mesh.specs.Tools.{bit}
 use Rattle.mesh.specs.Mesh.{X, Y, Z, InRange, number, placeOf}
-use Rattle.mesh.specs.Steps.{runsDown, reversed}
+use Rattle.mesh.specs.Steps.{next, runsDown, reversed}
 use Rattle.mesh.specs.Cells.{stateLength}
-use Rattle.rules.specs.Marks.{counted, rule, isWord, readAt}
+use Rattle.rules.specs.Marks.{counted, rule, isWord}
 use Rattle.mesh.specs.declared.Sizes.{Sizes}
-use Rattle.talk.specs.State.{own, mapIn}
+use Rattle.mesh.specs.declared.Next.{Next}
+use Rattle.mesh.specs.declared.Next.the-variants.{At, Edge}
+use Rattle.talk.specs.State.{own}
 
 -- what the checks have granted before a state is read
 pub record Ready (S : Sizes) (s : List ℕ) : Type 0 where
@@ -93,19 +95,27 @@ sideUp f k c n step = cond (ltb (c + 1) n) (f (k + step)) 8
 abbrev pub sideDown : (ℕ → ℕ) → ℕ → ℕ → ℕ → ℕ
 sideDown f k c step = cond (ltb 0 c) (f (k - step)) 8
 
--- what they show it
-abbrev pub shownUp : List ℕ → ℕ → ℕ → ℕ → ℕ → ℕ
-shownUp s = sideUp (own s)
+-- in a list with `per` bytes for each node: node i has its first one there; so have those neighbours
+pub record Laid (bytes : List ℕ) (per i : ℕ) : Type 0 where
+  pub low : i < 4096
+  pub room : per * i < length bytes
 
-abbrev pub shownDown : List ℕ → ℕ → ℕ → ℕ → ℕ
-shownDown s = sideDown (own s)
+pub record Near (bytes : List ℕ) (per k c n step : ℕ) : Type 0 where
+  pub above : c + 1 < n → Laid bytes per (k + step)
+  pub below : 0 < c → (step ≤ k) × Laid bytes per (k - step)
 
--- what is had of node k is had of those neighbours too
-pub record Near (Has : ℕ → Type 0) (k c n step : ℕ) : Type 0 where
-  pub here : Has k
-  pub above : c + 1 < n → Has (k + step)
-  pub below : 0 < c → step ≤ k
+-- which byte that is
+abbrev pub firstByte : List ℕ → ℕ → ℕ → ℕ
+firstByte bytes per i = getD bytes (per * i) 0
 
--- what node k's neighbour in direction j shows it
-unfoldable pub shows : Sizes → List ℕ → ℕ → ℕ → ℕ
-shows S s k j = readAt (mapIn S s) (λ q. own s (number S q)) (placeOf S k) j
+-- what node k reads of its neighbour in direction j, if it reads f i of node i; 8 where there is none
+abbrev pub aroundAt : Sizes → (ℕ → ℕ) → Next → ℕ
+aroundAt S f (At q) = f (number S q)
+aroundAt S f Edge = 8
+
+unfoldable pub around : Sizes → (ℕ → ℕ) → ℕ → ℕ → ℕ
+around S f k j = aroundAt S f (next S (placeOf S k) j)
+
+-- what that neighbour shows it: its own byte
+abbrev pub shows : Sizes → List ℕ → ℕ → ℕ → ℕ
+shows S s = around S (own s)

@@ -2,4 +2,5 @@
 
 pub mod bytes;
 pub mod pairs;
+pub mod sides;
 pub mod six;

@@ -1,35 +1,61 @@
--- `making::put_bytes` meets its contract: three axes and the own byte. Assumes nothing.
-use mathlib.Core.Path.{_≡_, _∙_}
+-- `making::put_bytes` meets its contract: so many bytes are stored, and the rest of the number has the others. Assumes nothing.
+use mathlib.Core.Path.{_≡_, refl, sym, _∙_, ap, subst}
+use Prim.Native.Nat.{ℕ, suc, _+_, _-_, _*_, _≤_}
+use native.Mathlib.Nat.{zero-add, add-zero}
+use native.Mathlib.Omega.{arith}
 use denote.Ref.{now}
-use lib.ListN.{length, length-set}
-use Rattle.making.proofs.Made.{stored-bytes}
+use lib.ListN.{length-set}
+use Rattle.mesh.specs.Fill.{Filled}
+use Rattle.mesh.proofs.Fill.{fill-none, fill-more}
+use Rattle.states.specs.Six.{byteAt}
+use Rattle.making.proofs.Made.{put-seven}
 use borrow.Author.Needs.{needs}
 use Rattle.making.proofs.put_bytes.Statement.{statement}
 use Rattle.making.proofs.put_bytes.Tie as tie
 
--- the stores keep the length
-long-kept : (z : tie.After-put-axis3) →
-    let s = z .before .before .before .before .before .before .before .before .before .before .before in
-    length (z .put-axis3 .last .0) ≡ length (now (s .args .state))
-long-kept z =
-    let y = z .before .before .before .before in
-    let x = y .before .before .before .before in
-    z .put-axis3 .kept .0 ∙ y .put-axis2 .kept .0 ∙ x .put-axis .kept .0
+abbrev Inv-loop : tie.InvT-loop
+Inv-loop state₀ k own heard at rest₀ j₀ state rest j =
+    (j ≤ 6) × ((i : ℕ) → byteAt rest i ≡ byteAt heard (i + j)) × Filled (λ i. 7 * k + 1 + i) (byteAt heard) state₀ state j
 
-same-length : tie.Need-same-length
-same-length c = simp length-set (long-kept (c .before .before))
+abbrev μ-loop : tie.MeasureT-loop
+μ-loop state₀ k own heard at rest₀ j₀ state rest j = 6 - j
 
-returns : tie.Need-returns
-returns c =
-    let z = c .before .before in
-    let y = z .before .before .before .before in
-    let x = y .before .before .before .before in
-    let s = x .before .before .before in
+loop-holds : tie.Need-loop-holds Inv-loop μ-loop
+loop-holds c =
+    let a = c .args in
+    (omega arith, λ i. ap (byteAt (a .heard)) (sym (add-zero i)), fill-none (λ i. 7 * a .k + 1 + i) (byteAt (a .heard)) (now (a .state)))
+
+slice-write-state : tie.Need-slice-write-state Inv-loop μ-loop
+slice-write-state c = let l = c .before .loop in omega (arith, l .inv .2 .size, c .before .before .pre .room)
+
+loop-again : tie.Need-loop-again Inv-loop μ-loop
+loop-again c =
+    let l = c .before .loop in
+    let s = c .before .before in
     let a = s .args in
-    stored-bytes (now (a .state)) (x .put-axis .last .0) (y .put-axis2 .last .0) (z .put-axis3 .last .0) (a .k) (a .own)
-    (a .a) (a .b) (a .c) (a .d) (a .e) (a .f) (long-kept z) (s .pre .room) (x .put-axis .ensures) (y .put-axis2 .ensures) (z .put-axis3 .ensures)
+    let here : byteAt (l .rest) 0 ≡ byteAt (a .heard) (l .j) = l .inv .1 0 ∙ ap (byteAt (a .heard)) (zero-add (l .j)) in (
+      omega arith,
+      λ i. let e : suc i + l .j ≡ i + (l .j + 1) = omega arith in l .inv .1 (suc i) ∙ ap (byteAt (a .heard)) e,
+      fill-more (λ i. 7 * a .k + 1 + i) (byteAt (a .heard)) (now (a .state)) (l .state) (l .j) _ _ (l .inv .2)
+          (omega (arith, l .inv .2 .size, s .pre .room)) (λ i h e. omega arith) refl here,
+    )
+
+slice-write-state-2 : tie.Need-slice-write-state-2 Inv-loop μ-loop
+slice-write-state-2 c = let l = c .before .loop in omega (arith, l .inv .2 .size, c .before .before .pre .room)
+
+same-length : tie.Need-same-length Inv-loop μ-loop
+same-length c = simp length-set (c .before .loop .inv .2 .size)
+
+returns : tie.Need-returns Inv-loop μ-loop
+returns c =
+    let l = c .before .loop in
+    let s = c .before .before in
+    let a = s .args in
+    let e : l .j ≡ 6 = omega arith in
+    put-seven (now (a .state)) (l .state) (a .k) (a .own) (a .heard) (s .pre .room)
+    (subst (Filled (λ i. 7 * a .k + 1 + i) (byteAt (a .heard)) (now (a .state)) (l .state)) e (l .inv .2))
 
 pub put-bytes-spec : {M : Type 1} → statement M
 put-bytes-spec =
-    tie.close (tie.spec (λ c κs. search needs) (λ c κs. search needs) (λ c κs. search needs) (λ c. search needs)
-    (λ c. search needs) same-length returns)
+    tie.close (tie.spec Inv-loop μ-loop (λ c. search needs) (λ c. search needs) loop-holds (λ c. search needs) (λ c. search needs)
+    slice-write-state (λ c. omega arith) (λ c. omega arith) loop-again (λ c. search needs) slice-write-state-2 same-length returns)

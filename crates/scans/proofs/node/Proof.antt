@@ -7,7 +7,7 @@ use Rattle.talk.specs.State.{heard}
 use Rattle.states.specs.Six.{_isBut255_}
 use Rattle.scans.specs.Scan.{nodeTest, nodeNews}
 use Rattle.states.proofs.Beside.{six-lt, quick-six, bits-six}
-use Rattle.states.proofs.Shown.{held}
+use Rattle.states.proofs.Around.{held}
 use Rattle.scans.proofs.Tested.{faulty-test, working-test, differs-six, differs-byte, faulty-news, working-news}
 use borrow.Author.Needs.{needs}
 use Rattle.scans.proofs.node.Statement.{statement}
@@ -18,6 +18,12 @@ heard-requires c κs =
     let n = c .before in
     let s = n .before .before in
     held (s .args .s) (now (s .args .state)) (s .pre .0) (n .number .result) (n .number .ensures .1)
+
+around-requires : tie.Need-around-requires
+around-requires c κs =
+    let n = c .before .before in
+    let s = n .before .before in
+    (s .pre .0 .sized, omega arith, s .pre .0 .long, s .pre .2, n .number .ensures .0)
 
 cast-wrong : tie.Need-cast-wrong
 cast-wrong c =
@@ -39,9 +45,9 @@ some-requires c κs =
     let a = n .before .before .args in
     let t = now (a .state) in
     let (et, bt) = h .heard .ensures in
-    let (es, bs) = w .shown .ensures in
-    rw (differs-six (a .s) (a .o) t (n .number .result) (h .heard .result) et bt (w .shown .result) es bs)
-    (six-lt _ (differs-byte (a .s) (a .o) t (n .number .result) (h .heard .result) et bt (w .shown .result) es bs))
+    let (es, bs) = w .around .ensures in
+    rw (differs-six (a .s) (a .o) t (n .number .result) (h .heard .result) et bt (w .around .result) es bs)
+    (six-lt _ (differs-byte (a .s) (a .o) t (n .number .result) (h .heard .result) et bt (w .around .result) es bs))
 
 returns : tie.Need-returns
 returns c =
@@ -71,19 +77,19 @@ returns-2 c =
     let k = n .number .result in
     let e = n .number .ensures .0 in
     let (et, bt) = h .heard .ensures in
-    let (es, bs) = w .shown .ensures in
+    let (es, bs) = w .around .ensures in
     let own = r .ruled .ensures ∙ quick-six (a .s) (a .o) (h .heard .result) (heard t k) bt et in
-    let six = b .some .ensures .0 ∙ bits-six _ _ (differs-byte (a .s) (a .o) t k (h .heard .result) et bt (w .shown .result) es bs)
-    (differs-six (a .s) (a .o) t k (h .heard .result) et bt (w .shown .result) es bs) in (
-      working-test (a .s) (a .o) t k (h .heard .result) et bt (w .shown .result) es bs (r .ruled .result) own (c .if1 .left)
+    let six = b .some .ensures .0 ∙ bits-six _ _ (differs-byte (a .s) (a .o) t k (h .heard .result) et bt (w .around .result) es bs)
+    (differs-six (a .s) (a .o) t k (h .heard .result) et bt (w .around .result) es bs) in (
+      working-test (a .s) (a .o) t k (h .heard .result) et bt (w .around .result) es bs (r .ruled .result) own (c .if1 .left)
           ∙ ap (nodeTest (a .s) (a .o) t) e,
       subst (λ (k : ℕ). b .some .result isBut255 nodeNews (a .s) t k) e
-          (working-news (a .s) (a .o) t k (h .heard .result) et bt (w .shown .result) es bs (b .some .result) six (c .if1 .left)),
+          (working-news (a .s) (a .o) t k (h .heard .result) et bt (w .around .result) es bs (b .some .result) six (c .if1 .left)),
       b .some .ensures .1,
     )
 
 pub node-spec : {M : Type 1} → statement M
 node-spec =
     tie.close (tie.spec (λ c κs. search needs) (λ c. search needs) (λ c. search needs) heard-requires
-    (λ c κs. search needs) (λ c κs. search needs) (λ c. search needs) (λ c. search needs) (λ c. search needs) cast-wrong
+    around-requires (λ c κs. search needs) (λ c. search needs) (λ c. search needs) (λ c. search needs) cast-wrong
     ruled-requires (λ c. search needs) some-requires returns returns-2)

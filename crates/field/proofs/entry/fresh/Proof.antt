@@ -4,7 +4,7 @@ use denote.Ref.{now}
 use lib.ListN.{length}
 use Rattle.mesh.specs.Cells.{mapOf}
 use Rattle.mesh.specs.declared.Answer.the-variants.{Done}
-use Rattle.mesh.proofs.Answers.{kept, map-granted}
+use Rattle.mesh.proofs.Answers.{kept}
 use Rattle.talk.specs.Sound.{fresh}
 use Rattle.talk.specs.Entries.{freshAnswer}
 use Rattle.talk.proofs.Calls.{fresh-passed}
@@ -28,8 +28,7 @@ put-fresh-requires : tie.Need-put-fresh-requires
 put-fresh-requires c κs =
     let a = c .before .before .before .before .before .before .args in
     let (((_, long), map), turned) = fresh-passed (a .s) (now (a .cells)) (a .orientation) (length (now (a .state))) .0 (in-order (c .before)) in
-    let m = map-granted (a .s) (now (a .cells)) map in
-    (m .sized, turned, m .whole, long)
+    (map, turned, long)
 
 returns-2 : tie.Need-returns-2
 returns-2 c =

@@ -4,7 +4,7 @@ use denote.Ref.{now}
 use Prim.Native.Nat.{_<_}
 use Rattle.mesh.specs.Mesh.{nodes}
 use Rattle.mesh.specs.Steps.{neighbour}
-use Rattle.states.proofs.Shown.{held}
+use Rattle.states.proofs.Around.{held}
 use Rattle.talk.proofs.State.{pair-is}
 use borrow.Author.Needs.{needs}
 use Rattle.states.proofs.pairs.pair.Statement.{statement}
