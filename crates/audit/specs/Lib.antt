@@ -1,3 +1,4 @@
 pub mod Audit
 pub mod Heading
 pub mod Usage
+pub mod Room

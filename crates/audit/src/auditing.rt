@@ -14,13 +14,15 @@ ghost use Prim.Native.Nat.{_≤_};
 ghost use lib.ListN.{length};
 ghost use Rattle.text.specs.Text.{Said};
 ghost use Rattle.audit.specs.Audit.{lineText, lineTotals, totalsOf, Few};
+ghost use Rattle.transfers.specs.Room.{transferRoom};
+ghost use Rattle.audit.specs.Room.{longestLog};
 
 // The text for a line, after others with these totals; and the totals with it.
 fn audit_line(s: Sizes, cells: &[u8], t: Totals, line: &[u8], out: &mut [u8]) -> Audited
-    requires { ⌜ Few t 65536 × (41502 ≤ length (now out)) ⌝ }
+    requires { ⌜ Few t longestLog × (transferRoom ≤ length (now out)) ⌝ }
     ensures { λ r. ⌜ (r .totals ≡ lineTotals s (now (cells .entry)) t (now (line .entry)))
         × Said (now (out .entry)) 0 (lineText s (now (cells .entry)) t (now (line .entry))) (now (out .exit)) (r .used)
-        × (r .used ≤ 41502) ⌝ }
+        × (r .used ≤ transferRoom) ⌝ }
 {
     let k = t.lines + 1;
     match entry(line) {
@@ -48,7 +50,7 @@ fn audit_line(s: Sizes, cells: &[u8], t: Totals, line: &[u8], out: &mut [u8]) ->
 
 // Prints the text for each line; the totals.
 pub(crate) fn audit_log(s: Sizes, cells: &[u8], log: &[u8], out: &mut [u8]) -> Totals
-    requires { ⌜ (length (now log) ≤ 65536) × (41502 ≤ length (now out)) ⌝ }
+    requires { ⌜ (length (now log) ≤ longestLog) × (transferRoom ≤ length (now out)) ⌝ }
     ensures { λ r. ⌜ r ≡ totalsOf s (now (cells .entry)) (now (log .entry)) ⌝ }
 {
     let mut t = Totals::none();

@@ -7,6 +7,7 @@ ghost use Prim.Native.Nat.{_+_, _≤_};
 ghost use lib.ListN.{length};
 ghost use Rattle.text.specs.Text.{Said};
 ghost use Rattle.audit.specs.Audit.{plus, judge, nothingYet, totalsText, Few};
+ghost use Rattle.audit.specs.Room.{longestLog, totalsRoom};
 
 impl Totals {
     // Before the first line.
@@ -30,7 +31,7 @@ impl Totals {
         refused: usize,
         unread: usize,
     ) -> Totals
-        requires { ⌜ Few self 65536 × (granted ≤ 1) × (pathless ≤ 1) × (refused ≤ 1) × (unread ≤ 1) ⌝ }
+        requires { ⌜ Few self longestLog × (granted ≤ 1) × (pathless ≤ 1) × (refused ≤ 1) × (unread ≤ 1) ⌝ }
         ensures { λ r. ⌜ r ≡ plus self granted pathless refused unread ⌝ }
     {
         Totals {
@@ -44,7 +45,7 @@ impl Totals {
 
     // One transfer more.
     pub(crate) fn judge(self, v: Verdict) -> Totals
-        requires { ⌜ Few self 65536 ⌝ }
+        requires { ⌜ Few self longestLog ⌝ }
         ensures { λ r. ⌜ r ≡ judge self v ⌝ }
     {
         match v {
@@ -61,8 +62,8 @@ impl Totals {
 
 // The totals as text.
 pub(crate) fn tell_totals(t: Totals, out: &mut [u8]) -> usize
-    requires { ⌜ 193 ≤ length (now out) ⌝ }
-    ensures { λ r. ⌜ Said (now (out .entry)) 0 (totalsText t) (now (out .exit)) r × (r ≤ 193) ⌝ }
+    requires { ⌜ totalsRoom ≤ length (now out) ⌝ }
+    ensures { λ r. ⌜ Said (now (out .entry)) 0 (totalsText t) (now (out .exit)) r × (r ≤ totalsRoom) ⌝ }
 {
     tell(
         b"totals: lines %, granted %, refused for no path %, refused otherwise %, no pair of numbers %\n",

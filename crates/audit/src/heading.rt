@@ -6,10 +6,11 @@ ghost use Prim.Native.Nat.{_≤_};
 ghost use lib.ListN.{length};
 ghost use Rattle.text.specs.Text.{Said};
 ghost use Rattle.audit.specs.Heading.{headingText, topText};
+ghost use Rattle.audit.specs.Room.{headingRoom, topRoom};
 
 fn heading(s: Sizes, out: &mut [u8]) -> usize
-    requires { ⌜ 819 ≤ length (now out) ⌝ }
-    ensures { λ r. ⌜ Said (now (out .entry)) 0 (headingText s) (now (out .exit)) r × (r ≤ 819) ⌝ }
+    requires { ⌜ headingRoom ≤ length (now out) ⌝ }
+    ensures { λ r. ⌜ Said (now (out .entry)) 0 (headingText s) (now (out .exit)) r × (r ≤ headingRoom) ⌝ }
 {
     tell(
         b"mesh % x % x %; the node at (x, y, z) has the number x + % * (y + % * z)
@@ -34,8 +35,8 @@ stays on the nodes marked o, and E is not one of them: no direct route exists.
 
 // All that stands above the lines of the log, which may be too long.
 pub(crate) fn top(s: Sizes, long: bool, out: &mut [u8]) -> usize
-    requires { ⌜ 875 ≤ length (now out) ⌝ }
-    ensures { λ r. ⌜ Said (now (out .entry)) 0 (topText s long) (now (out .exit)) r × (r ≤ 875) ⌝ }
+    requires { ⌜ topRoom ≤ length (now out) ⌝ }
+    ensures { λ r. ⌜ Said (now (out .entry)) 0 (topText s long) (now (out .exit)) r × (r ≤ topRoom) ⌝ }
 {
     let next = heading(s, out);
     if long {

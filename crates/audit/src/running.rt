@@ -10,12 +10,16 @@ use text::running::print_front;
 use transfers::say_refusal;
 ghost use mathlib.Core.Path.{_≡_};
 ghost use lib.ListN.{length};
+ghost use Rattle.audit.specs.Room.{longestLog};
 
-// The page for a map and a log of at most 65,536 bytes.
+// The longest log that is read.
+const LONGEST_LOG: usize = 65536;
+
+// The page for a map and a log, with room for such a log.
 fn print_audit(s: Sizes, cells: &[u8], log: &[u8], out: &mut [u8])
-    requires { ⌜ 65536 ≡ length (now out) ⌝ }
+    requires { ⌜ longestLog ≡ length (now out) ⌝ }
 {
-    let long = log.len() > 65536;
+    let long = log.len() > LONGEST_LOG;
     let n = top(s, long, out);
     print_front(out, n);
     if long {

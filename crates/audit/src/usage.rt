@@ -4,10 +4,11 @@ ghost use Prim.Native.Nat.{_≤_};
 ghost use lib.ListN.{length};
 ghost use Rattle.text.specs.Text.{Said};
 ghost use Rattle.audit.specs.Usage.{usageText};
+ghost use Rattle.audit.specs.Room.{usageRoom};
 
 pub fn usage(out: &mut [u8]) -> usize
-    requires { ⌜ 376 ≤ length (now out) ⌝ }
-    ensures { λ r. ⌜ Said (now (out .entry)) 0 usageText (now (out .exit)) r × (r ≤ 376) ⌝ }
+    requires { ⌜ usageRoom ≤ length (now out) ⌝ }
+    ensures { λ r. ⌜ Said (now (out .entry)) 0 usageText (now (out .exit)) r × (r ≤ usageRoom) ⌝ }
 {
     say(
         b"usage: meshaudit MAP LOG [MAP LOG ..]

@@ -19,6 +19,7 @@ use Rattle.rounds.specs.Links.{links, Net, net, Going}
 use Rattle.rounds.specs.Rounds.{oneRound, afterRounds}
 use Rattle.rounds.specs.Figures.{marksHeld, outstandingAfter, settledFrom, longest, settledAt}
 use Rattle.gossiping.specs.Text.{roundLine, roundLines}
+use Rattle.report.specs.Room.{lineRoom}
 use Rattle.rounds.proofs.Led.{going}
 use Rattle.rounds.proofs.Settled.{settled-here, settled-on, sound-at, last-settled}
 
@@ -26,7 +27,7 @@ use Rattle.rounds.proofs.Settled.{settled-here, settled-on, sound-at, last-sett
 pub record Turn (m : Map) (o at : ℕ) (old state way out : List ℕ) (drawn r next : ℕ) : Type 0 where
   pub is : net state way drawn ≡ afterRounds m o r
   pub said : Said old at (roundLines m o r) out next
-  pub room : next ≤ at + 128 * r
+  pub room : next ≤ at + lineRoom * r
   pub few : r ≤ longest (m .sizes)
   pub same : settledFrom m o (longest (m .sizes) - r) r ≡ settledAt m o
 
@@ -58,7 +59,7 @@ module _ {m : Map} {o at : ℕ} {old state way out : List ℕ} {drawn r next : �
   found : outstanding S state ≡ outstandingAfter m o r
   found = ap (outstanding S) state-is ∙ outstanding-in m o (afterRounds m o r .state) (sound-at m o fit o-le r)
 
-  pub turn-told : (out′ : List ℕ) (next′ : ℕ) → at + 128 * r ≤ length old
+  pub turn-told : (out′ : List ℕ) (next′ : ℕ) → at + lineRoom * r ≤ length old
       → Said out next (roundLine r (outstanding S state) (marksHeld S state)) out′ next′ → Said old at (roundLines m o (suc r)) out′ next′
   unfolding roundLines
   turn-told out′ next′ fits s =
@@ -77,8 +78,8 @@ module _ {m : Map} {o at : ℕ} {old state way out : List ℕ} {drawn r next : �
   ]
 
   pub turn-next : (state′ way′ out′ : List ℕ) (drawn′ next′ : ℕ) → outstanding S state ≢ 0
-      → net state′ way′ drawn′ ≡ oneRound S o r (net state way drawn) → at + 128 * r ≤ length old
-      → Said out next (roundLine r (outstanding S state) (marksHeld S state)) out′ next′ → next′ ≤ next + 128
+      → net state′ way′ drawn′ ≡ oneRound S o r (net state way drawn) → at + lineRoom * r ≤ length old
+      → Said out next (roundLine r (outstanding S state) (marksHeld S state)) out′ next′ → next′ ≤ next + lineRoom
       → Turn m o at old state′ way′ out′ drawn′ (r + 1) next′
   unfolding afterRounds
   turn-next state′ way′ out′ drawn′ next′ h e fits s l =

@@ -5,11 +5,12 @@ ghost use Prim.Native.Nat.{_+_, _≤_};
 ghost use lib.ListN.{length};
 ghost use Rattle.text.specs.Text.{Said};
 ghost use Rattle.gossiping.specs.Text.{legend, roundLine, startLine, settledLine};
+ghost use Rattle.report.specs.Room.{lineRoom};
 
 // Which rounds have loss.
 pub(crate) fn legend(out: &mut [u8], at: usize) -> usize
-    requires { ⌜ at + 128 ≤ length (now out) ⌝ }
-    ensures { λ n. ⌜ Said (now (out .entry)) at legend (now (out .exit)) n × (n ≤ at + 128) ⌝ }
+    requires { ⌜ at + lineRoom ≤ length (now out) ⌝ }
+    ensures { λ n. ⌜ Said (now (out .entry)) at legend (now (out .exit)) n × (n ≤ at + lineRoom) ⌝ }
 {
     tell(
         b"rounds 1 to % lose, repeat, delay and reorder words\n",
@@ -21,8 +22,8 @@ pub(crate) fn legend(out: &mut [u8], at: usize) -> usize
 
 // What is told of a round.
 pub(crate) fn round_line(r: usize, news: usize, marks: usize, out: &mut [u8], at: usize) -> usize
-    requires { ⌜ at + 128 ≤ length (now out) ⌝ }
-    ensures { λ n. ⌜ Said (now (out .entry)) at (roundLine r news marks) (now (out .exit)) n × (n ≤ at + 128) ⌝ }
+    requires { ⌜ at + lineRoom ≤ length (now out) ⌝ }
+    ensures { λ n. ⌜ Said (now (out .entry)) at (roundLine r news marks) (now (out .exit)) n × (n ≤ at + lineRoom) ⌝ }
 {
     if r > LOSSY_ROUNDS {
         return tell(
@@ -42,16 +43,16 @@ pub(crate) fn round_line(r: usize, news: usize, marks: usize, out: &mut [u8], at
 
 // The first line of an orientation.
 pub(crate) fn start_line(o: usize, working: usize, out: &mut [u8], at: usize) -> usize
-    requires { ⌜ at + 128 ≤ length (now out) ⌝ }
-    ensures { λ n. ⌜ Said (now (out .entry)) at (startLine o working) (now (out .exit)) n × (n ≤ at + 128) ⌝ }
+    requires { ⌜ at + lineRoom ≤ length (now out) ⌝ }
+    ensures { λ n. ⌜ Said (now (out .entry)) at (startLine o working) (now (out .exit)) n × (n ≤ at + lineRoom) ⌝ }
 {
     tell(b"octant % working %\n", &[o, working], out, at)
 }
 
 // Its last line.
 pub(crate) fn settled_line(r: usize, most: usize, out: &mut [u8], at: usize) -> usize
-    requires { ⌜ at + 128 ≤ length (now out) ⌝ }
-    ensures { λ n. ⌜ Said (now (out .entry)) at (settledLine r most) (now (out .exit)) n × (n ≤ at + 128) ⌝ }
+    requires { ⌜ at + lineRoom ≤ length (now out) ⌝ }
+    ensures { λ n. ⌜ Said (now (out .entry)) at (settledLine r most) (now (out .exit)) n × (n ≤ at + lineRoom) ⌝ }
 {
     tell(
         b"settled after round %; % full rounds always settle\n",

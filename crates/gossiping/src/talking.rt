@@ -19,13 +19,15 @@ ghost use Rattle.text.specs.Text.{Said};
 ghost use Rattle.rounds.specs.Links.{links, Fit};
 ghost use Rattle.rounds.specs.Figures.{marksHeld, settledAt};
 ghost use Rattle.gossiping.specs.Text.{roundLine, roundLines};
+ghost use Rattle.report.specs.Room.{lineRoom};
+ghost use Rattle.gossiping.specs.Room.{roundsRoom};
 
 // The line on the state after r rounds.
 fn tell_round(s: Sizes, o: usize, r: usize, state: &[u8], out: &mut [u8], at: usize) -> Told
-    requires { ⌜ Fit s o (now state) × (at + 128 ≤ length (now out)) ⌝ }
+    requires { ⌜ Fit s o (now state) × (at + lineRoom ≤ length (now out)) ⌝ }
     ensures { λ t. ⌜ (t .news ≡ outstanding s (now (state .entry)))
         × Said (now (out .entry)) at (roundLine r (outstanding s (now (state .entry))) (marksHeld s (now (state .entry)))) (now (out .exit)) (t .next)
-        × (t .next ≤ at + 128) ⌝ }
+        × (t .next ≤ at + lineRoom) ⌝ }
 {
     let news = news(s, o, state);
     let next = round_line(r, news, marks_held(s, state), out, at);
@@ -43,10 +45,10 @@ pub(crate) fn talk(
     at: usize,
 ) -> Ended
     requires { ⌜ (checkMap s (now cells) ≡ Done) × (o ≤ 7) × (now state ≡ fresh (mapOf s (now cells)) o)
-        × (now way ≡ replicate (links s) 0) × (at + 7296 ≤ length (now out)) ⌝ }
+        × (now way ≡ replicate (links s) 0) × (at + roundsRoom ≤ length (now out)) ⌝ }
     ensures { λ e. ⌜ (e .rounds ≡ settledAt (mapOf s (now (cells .entry))) o)
         × Said (now (out .entry)) at (roundLines (mapOf s (now (cells .entry))) o (suc (settledAt (mapOf s (now (cells .entry))) o)))
-        (now (out .exit)) (e .next) × (e .next ≤ at + 7296) ⌝ }
+        (now (out .exit)) (e .next) × (e .next ≤ at + roundsRoom) ⌝ }
 {
     let mut drawn = SEED;
     let mut r = 0;

@@ -23,6 +23,7 @@ ghost use Rattle.mesh.specs.declared.Answer.the-variants.{Done};
 ghost use Rattle.text.specs.Text.{Said};
 ghost use Rattle.report.specs.Report.{orientations};
 ghost use Rattle.gossiping.specs.Text.{octantText, octantTexts, mapText, gossip};
+ghost use Rattle.gossiping.specs.Room.{octantRoom, octantsRoom, gossipRoom};
 
 // Room for a word on each link of the largest mesh: nothing is on the way.
 fn blank_way() -> [u8; 24576]
@@ -40,8 +41,8 @@ fn octant_text(
     out: &mut [u8],
     at: usize,
 ) -> usize
-    requires { ⌜ (checkMap s (now cells) ≡ Done) × (o ≤ 7) × (length (now state) ≡ stateLength s) × (at + 7552 ≤ length (now out)) ⌝ }
-    ensures { λ r. ⌜ Said (now (out .entry)) at (octantText (mapOf s (now (cells .entry))) o) (now (out .exit)) r × (r ≤ at + 7552) ⌝ }
+    requires { ⌜ (checkMap s (now cells) ≡ Done) × (o ≤ 7) × (length (now state) ≡ stateLength s) × (at + octantRoom ≤ length (now out)) ⌝ }
+    ensures { λ r. ⌜ Said (now (out .entry)) at (octantText (mapOf s (now (cells .entry))) o) (now (out .exit)) r × (r ≤ at + octantRoom) ⌝ }
 {
     fresh(s, cells, o, state);
     let mut way = blank_way();
@@ -54,9 +55,9 @@ fn octant_text(
 
 // The texts of all of them.
 fn octant_texts(s: Sizes, cells: &[u8], state: &mut [u8], out: &mut [u8], at: usize) -> usize
-    requires { ⌜ (checkMap s (now cells) ≡ Done) × (length (now state) ≡ stateLength s) × (at + 60416 ≤ length (now out)) ⌝ }
+    requires { ⌜ (checkMap s (now cells) ≡ Done) × (length (now state) ≡ stateLength s) × (at + octantsRoom ≤ length (now out)) ⌝ }
     ensures { λ r. ⌜ Said (now (out .entry)) at (octantTexts (mapOf s (now (cells .entry))) (orientations s)) (now (out .exit)) r
-        × (r ≤ at + 60416) ⌝ }
+        × (r ≤ at + octantsRoom) ⌝ }
 {
     let mut next = at;
     for o in 0..orientations(s) {
@@ -67,8 +68,8 @@ fn octant_texts(s: Sizes, cells: &[u8], state: &mut [u8], out: &mut [u8], at: us
 
 // The text for a map that is in order.
 fn map_text(s: Sizes, cells: &[u8], out: &mut [u8]) -> usize
-    requires { ⌜ (checkMap s (now cells) ≡ Done) × (60672 ≤ length (now out)) ⌝ }
-    ensures { λ r. ⌜ Said (now (out .entry)) 0 (mapText (mapOf s (now (cells .entry)))) (now (out .exit)) r × (r ≤ 60672) ⌝ }
+    requires { ⌜ (checkMap s (now cells) ≡ Done) × (gossipRoom ≤ length (now out)) ⌝ }
+    ensures { λ r. ⌜ Said (now (out .entry)) 0 (mapText (mapOf s (now (cells .entry)))) (now (out .exit)) r × (r ≤ gossipRoom) ⌝ }
 {
     let mut state = io::large_buffer();
     let long = state_length(s);
@@ -79,8 +80,8 @@ fn map_text(s: Sizes, cells: &[u8], out: &mut [u8]) -> usize
 
 // The text for a file, at the front of the lent bytes; its length. A refusal is told as the report tells it.
 pub(crate) fn gossip(file: &[u8], out: &mut [u8]) -> usize
-    requires { ⌜ 60672 ≤ length (now out) ⌝ }
-    ensures { λ r. ⌜ Said (now (out .entry)) 0 (gossip (now (file .entry))) (now (out .exit)) r × (r ≤ 60672) ⌝ }
+    requires { ⌜ gossipRoom ≤ length (now out) ⌝ }
+    ensures { λ r. ⌜ Said (now (out .entry)) 0 (gossip (now (file .entry))) (now (out .exit)) r × (r ≤ gossipRoom) ⌝ }
 {
     let mut cells = io::buffer();
     match read_map(file, &mut cells) {

@@ -16,12 +16,13 @@ ghost use Rattle.paths.specs.Entries.{checkEnds};
 ghost use Rattle.rows.specs.Box.{OnAxis, Ready};
 ghost use Rattle.text.specs.Text.{pieces, Said};
 ghost use Rattle.picture.specs.Picture.{toldWide, symbolAt, columnText, rowText, rowIn, layerHead, layerText, picture};
+ghost use Rattle.picture.specs.Room.{symbolsRoom, rowRoom, rowsRoom, columnsRoom, layerHeadRoom, layersRoom, pictureRoom, numberRoom};
 
 // A coordinate, told by one form where it has one digit and by another where it has two.
 fn tell_wide(one: &[u8], two: &[u8], n: usize, out: &mut [u8], at: usize) -> usize
-    requires { ⌜ (length (now two) ≤ length (now one)) × (at + (length (now one) + 20) ≤ length (now out)) ⌝ }
+    requires { ⌜ (length (now two) ≤ length (now one)) × (at + (length (now one) + numberRoom) ≤ length (now out)) ⌝ }
     ensures { λ r. ⌜ Said (now (out .entry)) at (toldWide (now (one .entry)) (now (two .entry)) n) (now (out .exit)) r
-        × (r ≤ at + (length (now (one .entry)) + 20)) ⌝ }
+        × (r ≤ at + (length (now (one .entry)) + numberRoom)) ⌝ }
 {
     if n < 10 {
         return tell(one, &[n], out, at);
@@ -31,9 +32,9 @@ fn tell_wide(one: &[u8], two: &[u8], n: usize, out: &mut [u8], at: usize) -> usi
 
 // The symbols of a row of nodes.
 fn row_symbols(drawn: &[u8], row: Run, out: &mut [u8], at: usize) -> usize
-    requires { ⌜ OnAxis row 4096 × OnAxis row (length (now drawn)) × (row .steps < 16) × (at + 48 ≤ length (now out)) ⌝ }
+    requires { ⌜ OnAxis row 4096 × OnAxis row (length (now drawn)) × (row .steps < 16) × (at + symbolsRoom ≤ length (now out)) ⌝ }
     ensures { λ r. ⌜ Said (now (out .entry)) at (pieces (symbolAt (now (drawn .entry)) row) (row .steps + 1)) (now (out .exit)) r
-        × (r ≤ at + 48) ⌝ }
+        × (r ≤ at + symbolsRoom) ⌝ }
 {
     let n = row.steps + 1;
     let mut next = at;
@@ -45,8 +46,8 @@ fn row_symbols(drawn: &[u8], row: Run, out: &mut [u8], at: usize) -> usize
 
 // A row of nodes.
 fn say_row(drawn: &[u8], y: usize, row: Run, out: &mut [u8], at: usize) -> usize
-    requires { ⌜ OnAxis row 4096 × OnAxis row (length (now drawn)) × (row .steps < 16) × (at + 134 ≤ length (now out)) ⌝ }
-    ensures { λ r. ⌜ Said (now (out .entry)) at (rowText (now (drawn .entry)) y row) (now (out .exit)) r × (r ≤ at + 134) ⌝ }
+    requires { ⌜ OnAxis row 4096 × OnAxis row (length (now drawn)) × (row .steps < 16) × (at + rowRoom ≤ length (now out)) ⌝ }
+    ensures { λ r. ⌜ Said (now (out .entry)) at (rowText (now (drawn .entry)) y row) (now (out .exit)) r × (r ≤ at + rowRoom) ⌝ }
 {
     let label = tell_wide(b"    y  %  ", b"    y %  ", y, out, at);
     let symbols = row_symbols(drawn, row, out, label);
@@ -56,9 +57,9 @@ fn say_row(drawn: &[u8], y: usize, row: Run, out: &mut [u8], at: usize) -> usize
 
 // All rows of the layer after c steps.
 fn rows(s: Sizes, drawn: &[u8], g: Between, c: usize, out: &mut [u8], at: usize) -> usize
-    requires { ⌜ Ready s (now drawn) g × (c ≤ g .z .steps) × (at + 2144 ≤ length (now out)) ⌝ }
+    requires { ⌜ Ready s (now drawn) g × (c ≤ g .z .steps) × (at + rowsRoom ≤ length (now out)) ⌝ }
     ensures { λ r. ⌜ Said (now (out .entry)) at (pieces (rowIn s (now (drawn .entry)) g c) (g .y .steps + 1)) (now (out .exit)) r
-        × (r ≤ at + 2144) ⌝ }
+        × (r ≤ at + rowsRoom) ⌝ }
 {
     let y = g.y;
     let n = y.steps + 1;
@@ -71,8 +72,8 @@ fn rows(s: Sizes, drawn: &[u8], g: Between, c: usize, out: &mut [u8], at: usize)
 
 // The x of each column.
 fn columns(x: Run, out: &mut [u8], at: usize) -> usize
-    requires { ⌜ OnAxis x 16 × (at + 368 ≤ length (now out)) ⌝ }
-    ensures { λ r. ⌜ Said (now (out .entry)) at (pieces (columnText x) (x .steps + 1)) (now (out .exit)) r × (r ≤ at + 368) ⌝ }
+    requires { ⌜ OnAxis x 16 × (at + columnsRoom ≤ length (now out)) ⌝ }
+    ensures { λ r. ⌜ Said (now (out .entry)) at (pieces (columnText x) (x .steps + 1)) (now (out .exit)) r × (r ≤ at + columnsRoom) ⌝ }
 {
     let n = x.steps + 1;
     let mut next = at;
@@ -84,8 +85,8 @@ fn columns(x: Run, out: &mut [u8], at: usize) -> usize
 
 // The z of a layer, and the columns.
 fn layer_head(z: usize, x: Run, out: &mut [u8], at: usize) -> usize
-    requires { ⌜ OnAxis x 16 × (at + 411 ≤ length (now out)) ⌝ }
-    ensures { λ r. ⌜ Said (now (out .entry)) at (layerHead z x) (now (out .exit)) r × (r ≤ at + 411) ⌝ }
+    requires { ⌜ OnAxis x 16 × (at + layerHeadRoom ≤ length (now out)) ⌝ }
+    ensures { λ r. ⌜ Said (now (out .entry)) at (layerHead z x) (now (out .exit)) r × (r ≤ at + layerHeadRoom) ⌝ }
 {
     let head = tell(b"  layer z %\n    x     ", &[z], out, at);
     let each = columns(x, out, head);
@@ -94,9 +95,9 @@ fn layer_head(z: usize, x: Run, out: &mut [u8], at: usize) -> usize
 
 // All layers.
 fn layers(s: Sizes, drawn: &[u8], g: Between, out: &mut [u8], at: usize) -> usize
-    requires { ⌜ Ready s (now drawn) g × (at + 40880 ≤ length (now out)) ⌝ }
+    requires { ⌜ Ready s (now drawn) g × (at + layersRoom ≤ length (now out)) ⌝ }
     ensures { λ r. ⌜ Said (now (out .entry)) at (pieces (layerText s (now (drawn .entry)) g) (g .z .steps + 1)) (now (out .exit)) r
-        × (r ≤ at + 40880) ⌝ }
+        × (r ≤ at + layersRoom) ⌝ }
 {
     let z = g.z;
     let n = z.steps + 1;
@@ -110,8 +111,8 @@ fn layers(s: Sizes, drawn: &[u8], g: Between, out: &mut [u8], at: usize) -> usiz
 
 // The whole picture of a transfer whose ends may be used.
 pub fn picture(s: Sizes, cells: &[u8], start: usize, end: usize, out: &mut [u8], at: usize) -> usize
-    requires { ⌜ (checkEnds s (now cells) start end ≡ Done) × (at + 41069 ≤ length (now out)) ⌝ }
-    ensures { λ r. ⌜ Said (now (out .entry)) at (picture (mapOf s (now (cells .entry))) start end) (now (out .exit)) r × (r ≤ at + 41069) ⌝ }
+    requires { ⌜ (checkEnds s (now cells) start end ≡ Done) × (at + pictureRoom ≤ length (now out)) ⌝ }
+    ensures { λ r. ⌜ Said (now (out .entry)) at (picture (mapOf s (now (cells .entry))) start end) (now (out .exit)) r × (r ≤ at + pictureRoom) ⌝ }
 {
     let mut drawn = io::buffer();
     draw(s, cells, start, end, &mut drawn);

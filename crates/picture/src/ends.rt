@@ -8,6 +8,7 @@ ghost use Prim.Native.Nat.{_+_, _≤_};
 ghost use lib.ListN.{length};
 ghost use Rattle.text.specs.Text.{Said};
 ghost use Rattle.picture.specs.Picture.{wayText, endsText};
+ghost use Rattle.picture.specs.Room.{endsRoom};
 
 // The direction on an axis that leads towards the end, if one does.
 fn say_way(r: Run, axis: u8, out: &mut [u8], at: usize) -> usize
@@ -23,8 +24,8 @@ fn say_way(r: Run, axis: u8, out: &mut [u8], at: usize) -> usize
 
 // The line above the layers.
 pub(crate) fn say_ends(u: Place, v: Place, g: Between, out: &mut [u8], at: usize) -> usize
-    requires { ⌜ at + 189 ≤ length (now out) ⌝ }
-    ensures { λ r. ⌜ Said (now (out .entry)) at (endsText u v g) (now (out .exit)) r × (r ≤ at + 189) ⌝ }
+    requires { ⌜ at + endsRoom ≤ length (now out) ⌝ }
+    ensures { λ r. ⌜ Said (now (out .entry)) at (endsText u v g) (now (out .exit)) r × (r ≤ at + endsRoom) ⌝ }
 {
     let ends = tell(
         b"  S is at (%, %, %), E at (%, %, %); steps towards the end:",

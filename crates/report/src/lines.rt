@@ -6,19 +6,20 @@ ghost use Prim.Native.Nat.{_+_, _≤_};
 ghost use lib.ListN.{length};
 ghost use Rattle.text.specs.Text.{Said};
 ghost use Rattle.report.specs.Report.{firstLine, octantLine, refusalLine};
+ghost use Rattle.report.specs.Room.{lineRoom};
 
 // The first line: sizes and faulty nodes.
 pub fn first_line(s: Sizes, faulty: usize, out: &mut [u8], at: usize) -> usize
-    requires { ⌜ at + 128 ≤ length (now out) ⌝ }
-    ensures { λ r. ⌜ Said (now (out .entry)) at (firstLine s faulty) (now (out .exit)) r × (r ≤ at + 128) ⌝ }
+    requires { ⌜ at + lineRoom ≤ length (now out) ⌝ }
+    ensures { λ r. ⌜ Said (now (out .entry)) at (firstLine s faulty) (now (out .exit)) r × (r ≤ at + lineRoom) ⌝ }
 {
     tell(b"mesh % % % faulty %\n", &[s.w, s.h, s.d, faulty], out, at)
 }
 
 // A line for an orientation.
 pub(crate) fn octant_line(o: usize, f: Figures, out: &mut [u8], at: usize) -> usize
-    requires { ⌜ at + 128 ≤ length (now out) ⌝ }
-    ensures { λ r. ⌜ Said (now (out .entry)) at (octantLine o f) (now (out .exit)) r × (r ≤ at + 128) ⌝ }
+    requires { ⌜ at + lineRoom ≤ length (now out) ⌝ }
+    ensures { λ r. ⌜ Said (now (out .entry)) at (octantLine o f) (now (out .exit)) r × (r ≤ at + lineRoom) ⌝ }
 {
     tell(
         b"octant % useless % cannot-reach % components %\n",
@@ -30,8 +31,8 @@ pub(crate) fn octant_line(o: usize, f: Figures, out: &mut [u8], at: usize) -> us
 
 // The only line of a refusal.
 pub fn refusal_line(n: usize, out: &mut [u8], at: usize) -> usize
-    requires { ⌜ at + 128 ≤ length (now out) ⌝ }
-    ensures { λ r. ⌜ Said (now (out .entry)) at (refusalLine n) (now (out .exit)) r × (r ≤ at + 128) ⌝ }
+    requires { ⌜ at + lineRoom ≤ length (now out) ⌝ }
+    ensures { λ r. ⌜ Said (now (out .entry)) at (refusalLine n) (now (out .exit)) r × (r ≤ at + lineRoom) ⌝ }
 {
     tell(b"refused %\n", &[n], out, at)
 }

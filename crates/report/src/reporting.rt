@@ -15,6 +15,7 @@ ghost use Rattle.mesh.specs.Answers.{checkMap};
 ghost use Rattle.mesh.specs.declared.Answer.the-variants.{Done};
 ghost use Rattle.text.specs.Text.{Said};
 ghost use Rattle.report.specs.Report.{orientations, octantLines, mapReport, report};
+ghost use Rattle.report.specs.Room.{octantLinesRoom, reportRoom};
 
 // How many orientations have a line.
 pub fn orientations(s: Sizes) -> usize
@@ -25,9 +26,9 @@ pub fn orientations(s: Sizes) -> usize
 
 // The lines of all orientations.
 fn octant_lines(s: Sizes, cells: &[u8], out: &mut [u8], at: usize) -> usize
-    requires { ⌜ (checkMap s (now cells) ≡ Done) × (at + 1024 ≤ length (now out)) ⌝ }
+    requires { ⌜ (checkMap s (now cells) ≡ Done) × (at + octantLinesRoom ≤ length (now out)) ⌝ }
     ensures { λ r. ⌜ Said (now (out .entry)) at (octantLines (mapOf s (now (cells .entry))) (orientations s)) (now (out .exit)) r
-        × (r ≤ at + 1024) ⌝ }
+        × (r ≤ at + octantLinesRoom) ⌝ }
 {
     let mut next = at;
     for o in 0..orientations(s) {
@@ -38,8 +39,8 @@ fn octant_lines(s: Sizes, cells: &[u8], out: &mut [u8], at: usize) -> usize
 
 // The report on a map that is in order.
 fn map_report(s: Sizes, cells: &[u8], out: &mut [u8]) -> usize
-    requires { ⌜ (checkMap s (now cells) ≡ Done) × (2048 ≤ length (now out)) ⌝ }
-    ensures { λ r. ⌜ Said (now (out .entry)) 0 (mapReport (mapOf s (now (cells .entry)))) (now (out .exit)) r × (r ≤ 2048) ⌝ }
+    requires { ⌜ (checkMap s (now cells) ≡ Done) × (reportRoom ≤ length (now out)) ⌝ }
+    ensures { λ r. ⌜ Said (now (out .entry)) 0 (mapReport (mapOf s (now (cells .entry)))) (now (out .exit)) r × (r ≤ reportRoom) ⌝ }
 {
     let next = first_line(s, count_faulty(cells), out, 0);
     octant_lines(s, cells, out, next)
@@ -47,8 +48,8 @@ fn map_report(s: Sizes, cells: &[u8], out: &mut [u8]) -> usize
 
 // The report on a file, at the front of the lent bytes; its length.
 pub(crate) fn report(file: &[u8], out: &mut [u8]) -> usize
-    requires { ⌜ 2048 ≤ length (now out) ⌝ }
-    ensures { λ r. ⌜ Said (now (out .entry)) 0 (report (now (file .entry))) (now (out .exit)) r × (r ≤ 2048) ⌝ }
+    requires { ⌜ reportRoom ≤ length (now out) ⌝ }
+    ensures { λ r. ⌜ Said (now (out .entry)) 0 (report (now (file .entry))) (now (out .exit)) r × (r ≤ reportRoom) ⌝ }
 {
     let mut cells = io::buffer();
     match read_map(file, &mut cells) {

@@ -21,12 +21,13 @@ ghost use Rattle.paths.specs.declared.Verdict.the-variants.{NotGranted};
 ghost use Rattle.text.specs.Text.{ascii, told, pieces, Said};
 ghost use Rattle.transfers.specs.Transfer.{grantedText, refusedText, transferText};
 ghost use Rattle.transfers.specs.Words.{reasonLine};
+ghost use Rattle.transfers.specs.Room.{reasonRoom, routeRoom, grantedRoom, refusedRoom, transferRoom};
 
 // A line that ends with a refusal in words.
 pub fn say_refusal(word: &[u8], r: Refusal, out: &mut [u8], at: usize) -> usize
-    requires { ⌜ at + (length (now word) + 349) ≤ length (now out) ⌝ }
+    requires { ⌜ at + (length (now word) + reasonRoom) ≤ length (now out) ⌝ }
     ensures { λ n. ⌜ Said (now (out .entry)) at (reasonLine (now (word .entry)) r) (now (out .exit)) n
-        × (n ≤ at + (length (now (word .entry)) + 349)) ⌝ }
+        × (n ≤ at + (length (now (word .entry)) + reasonRoom)) ⌝ }
 {
     let reasons = b"0: granted
 1: a size is outside its range
@@ -49,9 +50,9 @@ pub fn say_refusal(word: &[u8], r: Refusal, out: &mut [u8], at: usize) -> usize
 
 // The first n nodes of a route.
 fn say_route(nodes: &[u16], n: usize, out: &mut [u8], at: usize) -> usize
-    requires { ⌜ (n ≤ length (now nodes)) × (n ≤ 46) × (at + 1012 ≤ length (now out)) ⌝ }
+    requires { ⌜ (n ≤ length (now nodes)) × (n ≤ 46) × (at + routeRoom ≤ length (now out)) ⌝ }
     ensures { λ r. ⌜ Said (now (out .entry)) at (pieces (λ i. told (ascii " %") (getD (now (nodes .entry)) i 0 ∷ [])) n) (now (out .exit)) r
-        × (r ≤ at + 1012) ⌝ }
+        × (r ≤ at + routeRoom) ⌝ }
 {
     let mut next = at;
     for i in 0..n {
@@ -62,8 +63,8 @@ fn say_route(nodes: &[u16], n: usize, out: &mut [u8], at: usize) -> usize
 
 // The hops and the route.
 fn say_granted(nodes: &[u16], h: usize, out: &mut [u8], at: usize) -> usize
-    requires { ⌜ (h + 1 ≤ length (now nodes)) × (h ≤ 45) × (at + 1057 ≤ length (now out)) ⌝ }
-    ensures { λ r. ⌜ Said (now (out .entry)) at (grantedText h (now (nodes .entry))) (now (out .exit)) r × (r ≤ at + 1057) ⌝ }
+    requires { ⌜ (h + 1 ≤ length (now nodes)) × (h ≤ 45) × (at + grantedRoom ≤ length (now out)) ⌝ }
+    ensures { λ r. ⌜ Said (now (out .entry)) at (grantedText h (now (nodes .entry))) (now (out .exit)) r × (r ≤ at + grantedRoom) ⌝ }
 {
     let hops = tell(b": granted, hops %, route", &[h], out, at);
     let list = say_route(nodes, h + 1, out, hops);
@@ -80,9 +81,9 @@ fn granted(
     out: &mut [u8],
     at: usize,
 ) -> usize
-    requires { ⌜ (verdictCheck s (now cells) start end ≡ Done) × (h ≡ hops (placeOf s start) (placeOf s end)) × (at + 1057 ≤ length (now out)) ⌝ }
+    requires { ⌜ (verdictCheck s (now cells) start end ≡ Done) × (h ≡ hops (placeOf s start) (placeOf s end)) × (at + grantedRoom ≤ length (now out)) ⌝ }
     ensures { λ r. ⌜ Said (now (out .entry)) at
-        (grantedText h (route (mapOf s (now (cells .entry))) (placeOf s end) (placeOf s start))) (now (out .exit)) r × (r ≤ at + 1057) ⌝ }
+        (grantedText h (route (mapOf s (now (cells .entry))) (placeOf s end) (placeOf s start))) (now (out .exit)) r × (r ≤ at + grantedRoom) ⌝ }
 {
     let mut nodes = [0u16; 46];
     route(s, cells, start, end, &mut nodes);
@@ -99,8 +100,8 @@ fn refused(
     out: &mut [u8],
     at: usize,
 ) -> usize
-    requires { ⌜ (verdictAnswer s (now cells) start end ≡ NotGranted r) × (at + 41428 ≤ length (now out)) ⌝ }
-    ensures { λ n. ⌜ Said (now (out .entry)) at (refusedText s (now (cells .entry)) start end r) (now (out .exit)) n × (n ≤ at + 41428) ⌝ }
+    requires { ⌜ (verdictAnswer s (now cells) start end ≡ NotGranted r) × (at + refusedRoom ≤ length (now out)) ⌝ }
+    ensures { λ n. ⌜ Said (now (out .entry)) at (refusedText s (now (cells .entry)) start end r) (now (out .exit)) n × (n ≤ at + refusedRoom) ⌝ }
 {
     let line = say_refusal(b": refused ", r, out, at);
     if r.number() == 10 {
@@ -119,8 +120,8 @@ pub fn transfer(
     v: Verdict,
     out: &mut [u8],
 ) -> usize
-    requires { ⌜ (v ≡ verdictAnswer s (now cells) start end) × (41502 ≤ length (now out)) ⌝ }
-    ensures { λ r. ⌜ Said (now (out .entry)) 0 (transferText s (now (cells .entry)) k start end) (now (out .exit)) r × (r ≤ 41502) ⌝ }
+    requires { ⌜ (v ≡ verdictAnswer s (now cells) start end) × (transferRoom ≤ length (now out)) ⌝ }
+    ensures { λ r. ⌜ Said (now (out .entry)) 0 (transferText s (now (cells .entry)) k start end) (now (out .exit)) r × (r ≤ transferRoom) ⌝ }
 {
     let next = tell(b"line %: % to %", &[k, start, end], out, 0);
     match v {

@@ -10,6 +10,8 @@ use denote.Ref.{now}
 use lib.Dec.{eqb}
 use Rattle.text.proofs.Saying.{said-as, said-then}
 use Rattle.transfers.specs.Transfer.{noPath, refusedText}
+use Rattle.transfers.specs.Room.{refusedLineRoom}
+use Rattle.picture.specs.Room.{pictureRoom}
 use Rattle.transfers.proofs.Judged.{no-path-ends}
 use Rattle.transfers.proofs.refused.Statement.{statement}
 use Rattle.transfers.proofs.refused.Tie as tie
@@ -35,7 +37,7 @@ returns c =
     let asked = drawn .before .before in
     let line = asked .before .before .before .before in
     let fits = line .before .before .before .before .before .pre .1 in
-    rw (without-path asked) (said-then 359 41069 (omega (arith, fits)) (line .say-refusal .ensures) (drawn .picture .ensures))
+    rw (without-path asked) (said-then refusedLineRoom pictureRoom (omega (arith, fits)) (line .say-refusal .ensures) (drawn .picture .ensures))
 
 returns-2 : tie.Need-returns-2
 unfolding refusedText

@@ -1,7 +1,9 @@
 -- `transfers::say_granted` meets its contract. Assumes nothing.
+use Prim.Native.Nat.{_+_}
 use native.Mathlib.Omega.{arith}
 use borrow.Author.Needs.{needs}
 use Rattle.transfers.specs.Transfer.{grantedText}
+use Rattle.transfers.specs.Room.{hopsRoom, routeRoom}
 use Rattle.text.proofs.Saying.{said-exact, said-then}
 use Rattle.transfers.proofs.say_granted.Statement.{statement}
 use Rattle.transfers.proofs.say_granted.Tie as tie
@@ -13,7 +15,7 @@ returns c =
     let list = feed .before .before .before .before .before in
     let hops = list .before .before .before .before in
     let fits = hops .before .before .before .before .before .before .pre .2 in
-    said-then 1056 1 (omega (arith, fits)) (said-then 44 1012 (omega (arith, fits)) (hops .tell .ensures) (list .say-route .ensures))
+    said-then (hopsRoom + routeRoom) 1 (omega (arith, fits)) (said-then hopsRoom routeRoom (omega (arith, fits)) (hops .tell .ensures) (list .say-route .ensures))
     (said-exact (feed .say .ensures))
 
 pub say-granted-spec : {M : Type 1} → statement M

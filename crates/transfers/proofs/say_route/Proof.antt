@@ -4,12 +4,13 @@ use Prim.Native.Nat.{_-_}
 use native.Mathlib.Omega.{arith}
 use lib.ListN.{getD}
 use Rattle.text.specs.Text.{ascii, told}
+use Rattle.transfers.specs.Room.{nodeRoom, routeRoom}
 use Rattle.text.proofs.Pieces.{Saying, saying-none, saying-more, saying-all}
 use Rattle.transfers.proofs.say_route.Statement.{statement}
 use Rattle.transfers.proofs.say_route.Tie as tie
 
 abbrev Inv-loop : tie.InvT-loop
-Inv-loop nodes n out₀ at next₀ i₀ t7 out next i = Saying (λ j. told (ascii " %") (getD nodes j 0 ∷ [])) 22 1012 n out₀ at i out next
+Inv-loop nodes n out₀ at next₀ i₀ t7 out next i = Saying (λ j. told (ascii " %") (getD nodes j 0 ∷ [])) nodeRoom routeRoom n out₀ at i out next
 
 abbrev μ-loop : tie.MeasureT-loop
 μ-loop nodes n out₀ at next₀ i₀ t7 out next i = n - i

@@ -11,6 +11,7 @@ use Rattle.paths.specs.declared.Verdict.{Verdict}
 use Rattle.text.specs.Text.{ascii, told}
 use Rattle.text.proofs.Saying.{said-as, said-then}
 use Rattle.transfers.specs.Transfer.{verdictText, transferText}
+use Rattle.transfers.specs.Room.{headRoom, grantedRoom, refusedRoom}
 use Rattle.transfers.proofs.Judged.{granted-says}
 use Rattle.transfers.proofs.transfer.Statement.{statement}
 use Rattle.transfers.proofs.transfer.Tie as tie
@@ -43,7 +44,7 @@ returns c =
     let head = v .before .before .before .before in
     let s = head .before .before .before .before .before .before in
     let a = s .args in
-    let said = said-then 74 1057 (omega (arith, s .pre .1)) (head .tell .ensures) (rest .granted .ensures) in
+    let said = said-then headRoom grantedRoom (omega (arith, s .pre .1)) (head .tell .ensures) (rest .granted .ensures) in
     (said-as (judged-text (a .s) (now (a .cells)) (a .k) (a .start) (a .end) _ (sym (s .pre .0) ∙ v .v .given .1)) (said .0), omega (arith, said .1))
 
 returns-2 : tie.Need-returns-2
@@ -53,7 +54,7 @@ returns-2 c =
     let head = v .before .before .before .before in
     let s = head .before .before .before .before .before .before in
     let a = s .args in
-    let said = said-then 74 41428 (omega (arith, s .pre .1)) (head .tell .ensures) (rest .refused .ensures) in
+    let said = said-then headRoom refusedRoom (omega (arith, s .pre .1)) (head .tell .ensures) (rest .refused .ensures) in
     (said-as (judged-text (a .s) (now (a .cells)) (a .k) (a .start) (a .end) _ (sym (s .pre .0) ∙ v .v2 .given .1)) (said .0), omega (arith, said .1))
 
 pub transfer-spec : {M : Type 1} → statement M

@@ -8,6 +8,7 @@ use lib.ListN.{length, drop}
 use Rattle.logfile.specs.Log.{linesOf}
 use Rattle.audit.specs.Audit.{totalsFrom, totalsOf, Few}
 use Rattle.audit.specs.declared.Totals.{Totals}
+use Rattle.audit.specs.Room.{longestLog}
 use Rattle.logfile.proofs.Lines.{line-within}
 use Rattle.audit.proofs.Passing.{more, totals-next, totals-end, few-line}
 use Rattle.audit.proofs.auditing.audit_log.Statement.{statement}
@@ -54,7 +55,7 @@ print-front-requires c κs = fits (c .before .before .before .before)
 -- the next place fits
 small : (c : tie.After-print-front Inv-loop μ-loop) →
     let line = c .before .before .before .before .before .before .before in
-    line .before .before .loop .at + length (now (line .line-from .result)) ≤ 65536
+    line .before .before .loop .at + length (now (line .line-from .result)) ≤ longestLog
 small c =
     let line = c .before .before .before .before .before .before .before in
     omega (arith, within line, line .before .before .before .before .before .before .before .pre .0)

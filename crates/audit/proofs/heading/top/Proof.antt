@@ -5,6 +5,7 @@ use native.Mathlib.Omega.{arith}
 use borrow.Author.Needs.{needs}
 use Rattle.text.proofs.Saying.{said-as, said-exact, said-then}
 use Rattle.audit.specs.Heading.{topText}
+use Rattle.audit.specs.Room.{headingRoom, tooLongRoom}
 use Rattle.audit.proofs.heading.top.Statement.{statement}
 use Rattle.audit.proofs.heading.top.Tie as tie
 
@@ -14,7 +15,7 @@ returns c =
     let said = c .before .before in
     let long = said .before .before .before in
     let head = long .before .before .before in
-    rw (long .if1 .taken) (said-then 819 56 (omega (arith, head .before .before .before .pre)) (head .heading .ensures) (said-exact (said .say .ensures)))
+    rw (long .if1 .taken) (said-then headingRoom tooLongRoom (omega (arith, head .before .before .before .pre)) (head .heading .ensures) (said-exact (said .say .ensures)))
 
 returns-2 : tie.Need-returns-2
 unfolding topText

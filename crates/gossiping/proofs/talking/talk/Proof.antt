@@ -10,6 +10,7 @@ use Rattle.mesh.proofs.Answers.{map-granted}
 use Rattle.text.proofs.Saying.{said-as}
 use Rattle.rounds.specs.Figures.{longest}
 use Rattle.gossiping.specs.Text.{roundLines}
+use Rattle.report.specs.Room.{lineRoom}
 use Rattle.gossiping.proofs.Turns.{Turn, turn-first, turn-going, turn-told, turn-last, turn-more, turn-next}
 use Rattle.gossiping.proofs.talking.talk.Statement.{statement}
 use Rattle.gossiping.proofs.talking.talk.Tie as tie
@@ -35,7 +36,7 @@ module _ (l : tie.At-loop Inv-loop μ-loop) where
   sized : InRange (m .sizes)
   sized = map-granted (start .args .s) (now (start .args .cells)) (start .pre .0) .sized
 
-  fits : start .args .at + 128 * l .loop .r + 128 ≤ length (now (start .args .out))
+  fits : start .args .at + lineRoom * l .loop .r + lineRoom ≤ length (now (start .args .out))
   fits = omega (arith, sized .w-hi, sized .h-hi, sized .d-hi, l .loop .inv .3 .few, start .pre .4)
 
 loop-holds : tie.Need-loop-holds Inv-loop μ-loop

@@ -10,6 +10,7 @@ use Rattle.text.specs.Text.{Said}
 use Rattle.text.proofs.Saying.{said-next, said-as}
 use Rattle.report.specs.Report.{orientations}
 use Rattle.gossiping.specs.Text.{octantTexts}
+use Rattle.gossiping.specs.Room.{octantRoom}
 use Rattle.gossiping.proofs.Texts.{no-text, one-more-text}
 use Rattle.gossiping.proofs.texting.octant_texts.Statement.{statement}
 use Rattle.gossiping.proofs.texting.octant_texts.Tie as tie
@@ -19,7 +20,7 @@ Inv-loop s cells state₀ out₀ at next₀ o₀ o-end state out next o =
     (o ≤ o-end)
     × (length state ≡ length state₀)
     × (length out ≡ length out₀)
-    × (next ≤ at + 7552 * o)
+    × (next ≤ at + octantRoom * o)
     × Said out₀ at (octantTexts (mapOf s cells) o) out next
 
 abbrev μ-loop : tie.MeasureT-loop

@@ -6,12 +6,13 @@ use Rattle.rows.proofs.Box.{steps-lt, widen}
 use Rattle.text.specs.Text.{ascii}
 use Rattle.text.proofs.Saying.{said-as}
 use Rattle.picture.specs.Picture.{toldWide, columnText}
+use Rattle.picture.specs.Room.{columnRoom, columnsRoom}
 use Rattle.text.proofs.Pieces.{Saying, saying-none, saying-more, saying-all}
 use Rattle.picture.proofs.drawing.columns.Statement.{statement}
 use Rattle.picture.proofs.drawing.columns.Tie as tie
 
 abbrev Inv-loop : tie.InvT-loop
-Inv-loop x out₀ at n next₀ a₀ t7 t8 out next a = Saying (columnText x) 23 368 (x .steps + 1) out₀ at a out next
+Inv-loop x out₀ at n next₀ a₀ t7 t8 out next a = Saying (columnText x) columnRoom columnsRoom (x .steps + 1) out₀ at a out next
 
 abbrev μ-loop : tie.MeasureT-loop
 μ-loop x out₀ at n next₀ a₀ t7 t8 out next a = x .steps + 1 - a

@@ -2,6 +2,7 @@
 use native.Mathlib.Omega.{arith}
 use borrow.Author.Needs.{needs}
 use Rattle.picture.specs.Picture.{layerHead}
+use Rattle.picture.specs.Room.{layerRoom, columnsRoom}
 use Rattle.text.proofs.Saying.{said-exact, said-then}
 use Rattle.picture.proofs.drawing.layer_head.Statement.{statement}
 use Rattle.picture.proofs.drawing.layer_head.Tie as tie
@@ -14,7 +15,7 @@ returns c =
     let head = each .before .before .before .before in
     let fits = head .before .before .before .before .before .pre .1 in
     said-then 410 1 (omega (arith, fits))
-    (said-then 42 368 (omega (arith, fits)) (head .tell .ensures) (each .columns .ensures))
+    (said-then layerRoom columnsRoom (omega (arith, fits)) (head .tell .ensures) (each .columns .ensures))
     (said-exact (feed .say .ensures))
 
 pub layer-head-spec : {M : Type 1} → statement M

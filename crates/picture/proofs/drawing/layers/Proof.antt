@@ -8,13 +8,14 @@ use Rattle.rows.proofs.Box.{widen}
 use Rattle.text.proofs.Saying.{said-as, said-then}
 use Rattle.text.specs.Text.{pieces}
 use Rattle.picture.specs.Picture.{rowIn, layerHead, layerText}
+use Rattle.picture.specs.Room.{layerHeadRoom, rowsRoom, layersRoom}
 use Rattle.picture.proofs.Drawn.{narrow}
 use Rattle.text.proofs.Pieces.{Saying, saying-none, saying-more, saying-all}
 use Rattle.picture.proofs.drawing.layers.Statement.{statement}
 use Rattle.picture.proofs.drawing.layers.Tie as tie
 
 abbrev Inv-loop : tie.InvT-loop
-Inv-loop s drawn g out₀ at z n next₀ c₀ out next c = Saying (layerText s drawn g) 2555 40880 (g .z .steps + 1) out₀ at c out next
+Inv-loop s drawn g out₀ at z n next₀ c₀ out next c = Saying (layerText s drawn g) (layerHeadRoom + rowsRoom) layersRoom (g .z .steps + 1) out₀ at c out next
 
 abbrev μ-loop : tie.MeasureT-loop
 μ-loop s drawn g out₀ at z n next₀ c₀ out next c = g .z .steps + 1 - c
@@ -63,7 +64,7 @@ loop-again c =
     let i = l .loop .inv in
     let a = l .before .before .before .before .before .args in
     let rows = pieces (rowIn (a .s) (now (a .drawn)) (a .g) (l .loop .c)) (a .g .y .steps + 1) in
-    let said = said-then 411 2144 (omega (arith, i .room, i .most, i .fits, i .size)) (head .layer-head .ensures) (body .rows .ensures) in
+    let said = said-then layerHeadRoom rowsRoom (omega (arith, i .room, i .most, i .fits, i .size)) (head .layer-head .ensures) (body .rows .ensures) in
     saying-more i (omega arith) (said-as (ap (λ (n : ℕ). layerHead n (a .g .x) ++ rows) (z .at .ensures)) (said .0), said .1)
 
 returns : tie.Need-returns Inv-loop μ-loop

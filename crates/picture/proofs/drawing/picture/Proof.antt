@@ -13,6 +13,7 @@ use Rattle.sweeps.proofs.Runs.{held}
 use Rattle.routes.proofs.Ends.{ends-granted}
 use Rattle.text.proofs.Saying.{said-as, said-then}
 use Rattle.picture.specs.Picture.{symbols}
+use Rattle.picture.specs.Room.{endsRoom, layersRoom}
 use Rattle.picture.proofs.Drawn.{symbols-length, drawn-taken, picture-is}
 use Rattle.picture.proofs.drawing.picture.Statement.{statement}
 use Rattle.picture.proofs.drawing.picture.Tie as tie
@@ -93,7 +94,7 @@ returns c =
     let n = u .before in
     let s = n .before .before .before .before .before .before .before in
     let a = s .args in
-    let said = said-then 189 40880 (omega (arith, s .pre .1)) (head .say-ends .ensures) (body .layers .ensures) in
+    let said = said-then endsRoom layersRoom (omega (arith, s .pre .1)) (head .say-ends .ensures) (body .layers .ensures) in
     let e = picture-is (mapOf (a .s) (now (a .cells))) (a .start) (a .end) (u .place .result) (v .place2 .result) (g .between .result)
     (take (n .nodes .result) (n .before .before .draw .last .1 .1 .1 .1 .0))
     (u .place .ensures) (v .place2 .ensures) (g .between .ensures) (drawn-is n) in

@@ -9,12 +9,13 @@ use Rattle.rows.proofs.Box.{gone-lt}
 use Rattle.text.specs.Text.{ascii}
 use Rattle.text.proofs.Saying.{said-as, said-exact}
 use Rattle.picture.specs.Picture.{symbolAt}
+use Rattle.picture.specs.Room.{symbolsRoom}
 use Rattle.text.proofs.Pieces.{Saying, saying-none, saying-more, saying-all}
 use Rattle.picture.proofs.drawing.row_symbols.Statement.{statement}
 use Rattle.picture.proofs.drawing.row_symbols.Tie as tie
 
 abbrev Inv-loop : tie.InvT-loop
-Inv-loop drawn row out₀ at n next₀ a₀ out next a = Saying (symbolAt drawn row) 3 48 (row .steps + 1) out₀ at a out next
+Inv-loop drawn row out₀ at n next₀ a₀ out next a = Saying (symbolAt drawn row) 3 symbolsRoom (row .steps + 1) out₀ at a out next
 
 abbrev μ-loop : tie.MeasureT-loop
 μ-loop drawn row out₀ at n next₀ a₀ out next a = row .steps + 1 - a

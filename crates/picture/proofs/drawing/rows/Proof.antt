@@ -12,13 +12,14 @@ use Rattle.rows.proofs.Box.{widen, reach-in, row-on}
 use Rattle.rows.specs.declared.Run.{Run}
 use Rattle.text.proofs.Saying.{said-as}
 use Rattle.picture.specs.Picture.{rowText, rowIn}
+use Rattle.picture.specs.Room.{rowRoom, rowsRoom}
 use Rattle.picture.proofs.Drawn.{narrow}
 use Rattle.text.proofs.Pieces.{Saying, saying-none, saying-more, saying-all}
 use Rattle.picture.proofs.drawing.rows.Statement.{statement}
 use Rattle.picture.proofs.drawing.rows.Tie as tie
 
 abbrev Inv-loop : tie.InvT-loop
-Inv-loop s drawn g c out₀ at y n next₀ b₀ out next b = Saying (rowIn s drawn g c) 134 2144 (g .y .steps + 1) out₀ at b out next
+Inv-loop s drawn g c out₀ at y n next₀ b₀ out next b = Saying (rowIn s drawn g c) rowRoom rowsRoom (g .y .steps + 1) out₀ at b out next
 
 abbrev μ-loop : tie.MeasureT-loop
 μ-loop s drawn g c out₀ at y n next₀ b₀ out next b = g .y .steps + 1 - b

@@ -7,6 +7,7 @@ use borrow.Author.Needs.{needs}
 use Rattle.text.specs.Text.{ascii, told}
 use Rattle.text.proofs.Saying.{said-as, said-then}
 use Rattle.picture.specs.Picture.{rowText}
+use Rattle.picture.specs.Room.{labelRoom, symbolsRoom}
 use Rattle.picture.proofs.drawing.say_row.Statement.{statement}
 use Rattle.picture.proofs.drawing.say_row.Tie as tie
 
@@ -44,7 +45,7 @@ returns c =
     let fits = s .pre .3 in
     let from = s .args .row .from in
     said-then 78 56 (omega (arith, fits))
-    (said-then 30 48 (omega (arith, fits)) (label .tell-wide .ensures) (symbols .row-symbols .ensures))
+    (said-then labelRoom symbolsRoom (omega (arith, fits)) (label .tell-wide .ensures) (symbols .row-symbols .ensures))
     (said-as (ap (λ (k : ℕ). told (ascii "   nodes % to %\n") (from ∷ k ∷ [])) (last .at .ensures)) (nodes .tell .ensures .0), nodes .tell .ensures .1)
 
 pub say-row-spec : {M : Type 1} → statement M

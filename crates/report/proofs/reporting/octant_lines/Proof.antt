@@ -13,12 +13,13 @@ use Rattle.text.specs.Text.{Said}
 use Rattle.text.proofs.Saying.{said-none, said-next, said-as}
 use Rattle.report.specs.Report.{orientations, octantLine, octantLines}
 use Rattle.report.specs.Report.{figuresOf}
+use Rattle.report.specs.Room.{lineRoom}
 use Rattle.report.proofs.reporting.octant_lines.Statement.{statement}
 use Rattle.report.proofs.reporting.octant_lines.Tie as tie
 
 abbrev Inv-loop : tie.InvT-loop
 Inv-loop s cells out₀ at next₀ o₀ o-end out next o =
-    (o ≤ o-end) × (length out ≡ length out₀) × (next ≤ at + 128 * o) × Said out₀ at (octantLines (mapOf s cells) o) out next
+    (o ≤ o-end) × (length out ≡ length out₀) × (next ≤ at + lineRoom * o) × Said out₀ at (octantLines (mapOf s cells) o) out next
 
 abbrev μ-loop : tie.MeasureT-loop
 μ-loop s cells out₀ at next₀ o₀ o-end out next o = o-end - o
