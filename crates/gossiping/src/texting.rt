@@ -12,6 +12,7 @@ use report::lines::first_line;
 use report::lines::refusal_line;
 use report::reporting::orientations;
 use rounds::figuring::working;
+use rounds::rounds::MOST_LINKS;
 use rounds::rounds::links;
 use states::bytes::state_length;
 ghost use mathlib.Core.Path.{_≡_};
@@ -22,14 +23,15 @@ ghost use Rattle.mesh.specs.Answers.{checkMap};
 ghost use Rattle.mesh.specs.declared.Answer.the-variants.{Done};
 ghost use Rattle.text.specs.Text.{Said};
 ghost use Rattle.report.specs.Report.{orientations};
+ghost use Rattle.rounds.specs.Links.{mostLinks};
 ghost use Rattle.gossiping.specs.Text.{octantText, octantTexts, mapText, gossip};
 ghost use Rattle.gossiping.specs.Room.{octantRoom, octantsRoom, gossipRoom};
 
 // Room for a word on each link of the largest mesh: nothing is on the way.
-fn blank_way() -> [u8; 24576]
-    ensures { λ r. ⌜ r ≡ replicate 24576 0 ⌝ }
+fn blank_way() -> [u8; MOST_LINKS]
+    ensures { λ r. ⌜ r ≡ replicate mostLinks 0 ⌝ }
 {
-    [0; 24576]
+    [0; MOST_LINKS]
 }
 
 // The text of an orientation.

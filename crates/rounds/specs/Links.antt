@@ -14,6 +14,10 @@ use Rattle.rounds.specs.Chance.{following, chosen, Fate, lost, late, twi
 abbrev pub links : Sizes → ℕ
 links S = 6 * nodes S
 
+-- how many the largest mesh has
+abbrev pub mostLinks : ℕ
+mostLinks = 6 * 4096
+
 -- the state of the nodes, the word that is on the way over each link, 0 where there is none, and the last number drawn
 pub record Net : Type 0 where
   pub state : List ℕ

@@ -10,7 +10,7 @@ ghost use Prim.Native.Nat.{_<_, _≤_};
 ghost use lib.ListN.{getD};
 ghost use Rattle.mesh.specs.Mesh.{InRange};
 ghost use Rattle.rounds.specs.Chance.{chosen};
-ghost use Rattle.rounds.specs.Links.{links, net, Fit, Going};
+ghost use Rattle.rounds.specs.Links.{links, mostLinks, net, Fit, Going};
 ghost use Rattle.rounds.specs.Rounds.{strides, lossyRound, fullRound, oneRound};
 
 // Primes, and more than there are links.
@@ -19,10 +19,13 @@ const STRIDES: [usize; 4] = [24593, 24611, 24623, 24631];
 // How many rounds have loss.
 pub const LOSSY_ROUNDS: usize = 8;
 
+// How many links the largest mesh has.
+pub const MOST_LINKS: usize = 24576;
+
 // How many links there are.
 pub fn links(s: Sizes) -> usize
     requires { ⌜ InRange s ⌝ }
-    ensures { λ r. ⌜ (r ≡ links s) × (0 < r) × (r ≤ 24576) ⌝ }
+    ensures { λ r. ⌜ (r ≡ links s) × (0 < r) × (r ≤ mostLinks) ⌝ }
 {
     6 * s.nodes()
 }

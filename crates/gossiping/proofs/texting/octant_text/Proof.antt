@@ -6,6 +6,7 @@ use denote.Ref.{now}
 use lib.ListN.{length, length-replicate, replicate, take}
 use Rattle.mesh.proofs.Answers.{map-granted}
 use Rattle.text.proofs.Saying.{said-next, said-as}
+use Rattle.rounds.specs.Links.{mostLinks}
 use Rattle.gossiping.specs.Text.{startLine, settledLine, octantText}
 use Rattle.gossiping.proofs.Texts.{made-fresh, take-replicate}
 use borrow.Author.Needs.{needs}
@@ -16,7 +17,7 @@ use Rattle.gossiping.proofs.texting.octant_text.Tie as tie
 way-is : (k : tie.After-links) → take (k .links .result) (k .before .blank-way .result) ≡ replicate (k .links .result) 0
 way-is k =
     let n = k .links .result in
-    ap (take n) (k .before .blank-way .ensures) ∙ take-replicate 0 n 24576 (k .links .ensures .2)
+    ap (take n) (k .before .blank-way .ensures) ∙ take-replicate 0 n mostLinks (k .links .ensures .2)
 
 links-requires : tie.Need-links-requires
 links-requires c κs =

@@ -7,7 +7,7 @@ use borrow.Author.Needs.{needs}
 use denote.Ref.{now}
 use lib.ListN.{length}
 use Rattle.rounds.specs.Chance.{chosen}
-use Rattle.rounds.specs.Links.{links, net, visit, Going}
+use Rattle.rounds.specs.Links.{mostLinks, links, net, visit, Going}
 use Rattle.rounds.specs.Rounds.{visits}
 use Rattle.rounds.proofs.Going.{visits-going}
 use Rattle.rounds.proofs.Counted.{no-visit, visit-more}
@@ -36,11 +36,11 @@ module _ (l : tie.At-loop Inv-loop μ-loop) where
   abbrev start : tie.Start Inv-loop μ-loop
   start = counted .before .before .before .before .before
 
-  few : l .loop .i ≤ 24576
+  few : l .loop .i ≤ mostLinks
   few = omega (arith, l .loop .inv .0, counted .links .ensures .2)
 
   -- how far the strides reach
-  reach : l .before .stride .result * l .loop .i ≤ 24631 * 24576
+  reach : l .before .stride .result * l .loop .i ≤ 24631 * mostLinks
   reach = mul-le-mul (l .before .stride .ensures .1) few
 
   going : Going (start .args .s) (start .args .o) (net (l .loop .state) (l .loop .way) (l .loop .last))
