@@ -4,7 +4,7 @@ use rows::Between;
 use rows::full;
 use rows::sweep_row;
 ghost use mathlib.Core.Path.{_≡_};
-ghost use Prim.Native.Nat.{ℕ, _+_, _≤_, _<_};
+ghost use Prim.Native.Nat.{_+_, _≤_, _<_};
 ghost use Rattle.mesh.specs.Tools.{bit};
 ghost use lib.ListN.{length};
 ghost use Rattle.mesh.specs.Cells.{Map};

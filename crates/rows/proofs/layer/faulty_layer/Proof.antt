@@ -2,7 +2,6 @@
 use mathlib.Core.Path.{_≡_, refl, subst}
 use Prim.Native.Nat.{_+_, _-_, _≤_, _<_}
 use native.Mathlib.Omega.{arith}
-use borrow.Author.Needs.{needs}
 use lib.ListN.{length}
 use denote.Ref.{now}
 use Rattle.mesh.specs.Mesh.{Inside}

@@ -4,9 +4,6 @@ use native.Mathlib.Omega.{arith}
 use borrow.Author.Needs.{needs}
 use lib.ListN.{length}
 use denote.Ref.{now}
-use Rattle.mesh.specs.Mesh.{Inside}
-use Rattle.rows.specs.Box.{largest, far}
-use Rattle.rows.proofs.Box.{far-in}
 use Rattle.sweeps.proofs.RowSweep.{rows-ways}
 use Rattle.sweeps.proofs.bits.over.Statement.{statement}
 use Rattle.sweeps.proofs.bits.over.Tie as tie
