@@ -7,8 +7,9 @@ use Prim.Native.Nat.{ℕ, zero, suc, _+_, _-_, _<_, _≤_}
 use native.Mathlib.Omega.{arith}
 use native.Mathlib.Nat.{eq-or-lt-of-le}
 use native.Mathlib.Numerals.{add-one}
+use borrow.Author.Count.{below-more}
 use borrow.Author.Tests.{lt-ltb, ltb-true, le-leb}
-use lib.Bits.{bitAnd, bitOr}
+use lib.Bits.{bitAnd, bitOr, bitXor, xor-add-and, and-le-l, and-le-r}
 use lib.Dec.{ltb}
 use lib.ListN.{length, getD, set, length-set, getD-replicate}
 use lib.Seq.{getD-set-same, getD-set-other}
@@ -19,14 +20,15 @@ use Rattle.mesh.specs.Cells.{Map, faulty}
 use Rattle.mesh.proofs.Tests.{T-all, holds-true}
 use Rattle.rules.specs.Marks.{counted, flip, toGo, shut}
 use Rattle.rules.proofs.Marks.{shut-step}
-use Rattle.rows.specs.Row.{bitAt, swept, packed}
-use Rattle.rows.specs.Box.{largest, gone, reach, far, Within, OnAxis, Held}
+use Rattle.rows.specs.Row.{bitAt, swept}
+use Rattle.rows.specs.Box.{largest, gone, reach, far, Within, OnAxis, Held, faultyRow}
 use Rattle.rows.proofs.Bits.{at-and, at-or}
 use Rattle.rows.proofs.Packs.{at-none, at-packed}
 use Rattle.mesh.specs.declared.Sizes.{Sizes}
 use Rattle.mesh.specs.declared.Place.{Place}
 use Rattle.rows.specs.declared.Between.{Between}
-use Rattle.marks.specs.Sweep.{axis, whole, prior, Shuts, Holds, beyond, rowBefore, Over}
+use Rattle.marks.specs.Sweep.{axis, whole, prior, Shuts, Holds, beyond, rowBefore, Over, NoneStuck}
+use Rattle.marks.proofs.Stretches.{or-none}
 
 -- ---- all nodes, from the corner ahead
 
@@ -118,6 +120,11 @@ module _ (m : Map) (g : Between) (shut : Place → Bool) (Q : Shuts m g shut) (c
 
 -- ---- row after row
 
+faulty-at : (m : Map) (g : Between) (c b dead : ℕ) → dead ≡ faultyRow m g b c → (a : ℕ) → a ≤ g .x .steps → bitAt dead a ≡ faulty m (reach g (place a b c))
+faulty-at m g c b dead e a l =
+    let f : ℕ → Bool = λ a. faulty m (reach g (place a b c)) in
+    ap (λ n. bitAt n a) e ∙ at-packed f (g .x .steps + 1) a ∙ ap (λ t. t && f a) (lt-ltb a (g .x .steps + 1) (omega arith))
+
 pub over-none : (m : Map) (g : Between) (c : ℕ) (old : List ℕ) → Over m g c old old 0
 over-none m g c old = record { at = λ shut Q H a b la lb hb. absurd (omega arith); kept = λ b h. refl; size = refl }
 
@@ -136,7 +143,7 @@ module _ (m : Map) (g : Between) (c : ℕ) (hc : c ≤ g .z .steps) (b : ℕ) (h
       split false e = at-none a
 
   pub over-more : (dead v : ℕ) → b < length mid
-      → dead ≡ packed (λ a. faulty m (reach g (place a b c))) (g .x .steps + 1)
+      → dead ≡ faultyRow m g b c
       → ((k : ℕ) → bitAt v k
       ≡ swept (bitAt (bitOr dead (bitAnd (rowBefore mid b) (getD mid b 0)))) (bitAt dead) (bitAt (bitOr dead (bitAnd (rowBefore mid b) (getD mid b 0)))) k)
       → Over m g c old (set mid b v) (b + 1)
@@ -152,17 +159,29 @@ module _ (m : Map) (g : Between) (c : ℕ) (hc : c ≤ g .z .steps) (b : ℕ) (h
       le-of : (i : ℕ) → i < b + 1 → i ≤ b
       le-of i n = omega arith
 
-      none : (a : ℕ) → a ≤ g .x .steps → bitAt dead a ≡ faulty m (reach g (place a b c))
-      none a l =
-          let f : ℕ → Bool = λ a. faulty m (reach g (place a b c)) in
-          ap (λ n. bitAt n a) ed ∙ at-packed f (g .x .steps + 1) a ∙ ap (λ t. t && f a) (lt-ltb a (g .x .steps + 1) (omega arith))
-
       here : (shut : Place → Bool) → Shuts m g shut → Holds g (prior m shut c) old → (a : ℕ) → a ≤ g .x .steps
           → bitAt (getD (set mid b v) b 0) a ≡ shut (place a b c)
       here shut Q H a la =
           ap (λ n. bitAt n a) (getD-set-same mid b v 0 len) ∙ ev a
-          ∙ row-shuts m g shut Q c hc b hb dead (rowBefore mid b) (getD mid b 0) none (before-at shut Q H)
+          ∙ row-shuts m g shut Q c hc b hb dead (rowBefore mid b) (getD mid b 0) (faulty-at m g c b dead ed) (before-at shut Q H)
           (λ a l. ap (λ n. bitAt n a) (L .kept b (omega arith)) ∙ H a b l hb) a la
+
+-- the first b rows are those of the faulty nodes
+abbrev pub AsFaulty : List ℕ → List ℕ → ℕ → Type 0
+AsFaulty faulty rows b = (i : ℕ) → i < b → getD rows i 0 ≡ getD faulty i 0
+
+pub as-faulty-more : (faulty rows : List ℕ) (b v stuck : ℕ) → b < length rows → (stuck ≡ 0 → AsFaulty faulty rows b)
+    → bitOr stuck (bitXor v (getD faulty b 0)) ≡ 0 → AsFaulty faulty (set rows b v) (b + 1)
+as-faulty-more faulty rows b v stuck h before e =
+    let n = or-none stuck (bitXor v (getD faulty b 0)) e in
+    let q : v ≡ getD faulty b 0 = omega (arith, n .1, xor-add-and v (getD faulty b 0), and-le-l v (getD faulty b 0), and-le-r v (getD faulty b 0)) in
+    below-more (λ i. getD (set rows b v) i 0 ≡ getD faulty i 0) b
+    (λ i l. getD-set-other rows b i v 0 (λ e. omega arith) ∙ before (n .0) i l)
+    (getD-set-same rows b v 0 h ∙ q)
+
+pub as-faulty-all : (m : Map) (g : Between) (c : ℕ) (dead rows : List ℕ) → ((b : ℕ) → b ≤ g .y .steps → getD dead b 0 ≡ faultyRow m g b c)
+    → AsFaulty dead rows (g .y .steps + 1) → NoneStuck m g c rows
+as-faulty-all m g c dead rows told same a b la lb = faulty-at m g c b (getD rows b 0) (same b (omega arith) ∙ told b lb) a la
 
 -- ---- layer after layer
 

@@ -30,7 +30,7 @@ use Rattle.marks.specs.Stretches.{onZ, inner, Apart}
 
 -- ---- one place more is looked at
 
-or-none : (a b : ℕ) → bitOr a b ≡ 0 → (a ≡ 0) × (b ≡ 0)
+pub or-none : (a b : ℕ) → bitOr a b ≡ 0 → (a ≡ 0) × (b ≡ 0)
 or-none a b e =
     let l = and-le-l a b in
     let r = and-le-r a b in

@@ -57,6 +57,10 @@ pub record Over (m : Map) (g : Between) (c : ℕ) (old new : List ℕ) (n : ℕ)
   pub kept : (b : ℕ) → n ≤ b → getD new b 0 ≡ getD old b 0
   pub size : length new ≡ length old
 
+-- the rows of layer c, where none of its nodes is stuck: the shut ones are faulty
+abbrev pub NoneStuck : Map → Between → ℕ → List ℕ → Type 0
+NoneStuck m g c rows = Holds g (λ a b. faulty m (reach g (place a b c))) rows
+
 -- ---- bytes
 
 -- a map that was checked, and a byte for each node
@@ -66,10 +70,12 @@ pub record Room (S : Sizes) (cells out : List ℕ) : Type 0 where
   pub good : Good S cells
   pub fits : nodes S ≤ length out
 
--- in the first n layers v is added to the byte of each node that is shut; no other byte changes
-pub record Layers (S : Sizes) (g : Between) (shut : Place → Bool) (v : ℕ) (old new : List ℕ) (n : ℕ) : Type 0 where
-  pub at : (t : Place) → Within g t → t .z < n → getD new (number S (reach g t)) 0 ≡ getD old (number S (reach g t)) 0 + v * bit (shut t)
-  pub kept : (i : ℕ) → ((t : Place) → Within g t → t .z < n → i ≡ number S (reach g t) → ⊥) → getD new i 0 ≡ getD old i 0
+-- in the first n layers v is added to the byte of each working node that is shut. To that of a faulty one it may be added; no other byte changes.
+pub record Layers (m : Map) (g : Between) (shut : Place → Bool) (v : ℕ) (old new : List ℕ) (n : ℕ) : Type 0 where
+  pub at : (t : Place) → Within g t → t .z < n → faulty m (reach g t) ≡ false
+      → getD new (number (m .sizes) (reach g t)) 0 ≡ getD old (number (m .sizes) (reach g t)) 0 + v * bit (shut t)
+  pub at-most : (t : Place) → Within g t → t .z < n → getD new (number (m .sizes) (reach g t)) 0 ≤ getD old (number (m .sizes) (reach g t)) 0 + v
+  pub kept : (i : ℕ) → ((t : Place) → Within g t → t .z < n → i ≡ number (m .sizes) (reach g t) → ⊥) → getD new i 0 ≡ getD old i 0
   pub size : length new ≡ length old
 
 -- v is added to the byte of each working node that is stuck. To that of a faulty one it may be added; no byte past the nodes changes.

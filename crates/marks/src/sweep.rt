@@ -13,7 +13,7 @@ ghost use lib.ListN.{length, getD, replicate};
 ghost use Rattle.mesh.specs.Mesh.{InRange, nodes};
 ghost use Rattle.mesh.specs.Cells.{mapOf};
 ghost use Rattle.rows.specs.Box.{Good, Ready};
-ghost use Rattle.marks.specs.Sweep.{axis, whole, beyond, Over, Room, Swept};
+ghost use Rattle.marks.specs.Sweep.{axis, whole, beyond, Over, NoneStuck, Room, Swept};
 
 // A byte for each node of the largest mesh.
 pub fn blank_marks() -> [u8; 4096]
@@ -54,22 +54,26 @@ fn whole(s: Sizes, o: usize) -> Between
     }
 }
 
-// Layer c, over the layer before it.
-fn over(s: Sizes, cells: &[u8], g: Between, c: usize, rows: &mut [u16])
+// Layer c, over the layer before it; not 0 if one of its nodes is stuck.
+fn over(s: Sizes, cells: &[u8], g: Between, c: usize, rows: &mut [u16]) -> u16
     requires { ⌜ Ready s (now cells) g × Good s (now cells) × (length (now rows) ≡ 16) × (c ≤ g .z .steps) ⌝ }
-    ensures { λ _. ⌜ Over (mapOf s (now (cells .entry))) g c (now (rows .entry)) (now (rows .exit)) (g .y .steps + 1) ⌝ }
+    ensures { λ r. ⌜ Over (mapOf s (now (cells .entry))) g c (now (rows .entry)) (now (rows .exit)) (g .y .steps + 1)
+        × (r ≡ 0 → NoneStuck (mapOf s (now (cells .entry))) g c (now (rows .exit))) ⌝ }
 {
     let n = g.y.steps + 1;
     let mut faulty = [0u16; 16];
     faulty_layer(s, cells, g, c, &mut faulty);
     let mut last: u16 = 0;
+    let mut stuck: u16 = 0;
     let mut b = 0;
     while b < n {
         let may = faulty[b] | (last & rows[b]);
         last = sweep_row(may, faulty[b], may);
         rows[b] = last;
+        stuck = stuck | (last ^ faulty[b]);
         b += 1;
     }
+    stuck
 }
 
 // The rows before the first layer: beyond the edge nothing is shut, and where Z does not count nothing is asked of it.
@@ -82,7 +86,7 @@ fn beyond(s: Sizes) -> [u16; 16]
     [0; 16]
 }
 
-// Adds v to the byte of each working node that is stuck in orientation o.
+// Adds v to the byte of each working node that is stuck in orientation o; layers without one are left out.
 pub(crate) fn sweep(s: Sizes, cells: &[u8], o: usize, v: u8, out: &mut [u8])
     requires { ⌜ Room s (now cells) (now out) × ((k : ℕ) → k < nodes s → getD (now out) k 0 + v ≤ 255) ⌝ }
     ensures { λ _. ⌜ Swept (mapOf s (now (cells .entry))) o v (now (out .entry)) (now (out .exit)) ⌝ }
@@ -94,7 +98,9 @@ pub(crate) fn sweep(s: Sizes, cells: &[u8], o: usize, v: u8, out: &mut [u8])
     let mut rows = beyond(s);
     let d = s.d;
     for c in 0..d {
-        over(s, cells, g, c, &mut rows);
-        add_layer(s, g, c, &rows, v, out);
+        let stuck = over(s, cells, g, c, &mut rows);
+        if stuck != 0 {
+            add_layer(s, g, c, &rows, v, out);
+        }
     }
 }

@@ -1,5 +1,7 @@
 -- `marks::sweep::sweep` meets its contract: layer after layer, each over the one before it. Assumes nothing.
 use mathlib.Core.Path.{_≡_, sym, ap, _∙_, subst}
+use mathlib.Core.Logic.{⊎-elim}
+use mathlib.Core.List.{List}
 use Prim.Native.Nat.{ℕ, _+_, _-_, _<_, _≤_}
 use native.Mathlib.Omega.{arith}
 use borrow.Author.Needs.{needs}
@@ -14,13 +16,14 @@ use Rattle.rows.proofs.Box.{far-in, reach-in}
 use Rattle.mesh.specs.declared.Place.{Place}
 use Rattle.marks.specs.Sweep.{whole, prior, Shuts, Holds, Layers}
 use Rattle.marks.proofs.Rows.{whole-held, shutLeft, shuts-whole, beyond-holds, over-holds}
-use Rattle.marks.proofs.Added.{layers-none, fresh, layers-more, swept-none, swept-all}
+use Rattle.marks.proofs.Added.{layers-none, fresh, layers-more, layers-skip, swept-none, swept-all}
 use Rattle.marks.proofs.sweep.sweep.Statement.{statement}
 use Rattle.marks.proofs.sweep.sweep.Tie as tie
 
 abbrev Inv-loop : tie.InvT-loop
 Inv-loop s cells o v out₀ g rows₀ d c₀ out rows c =
-    (c ≤ d) × (length rows ≡ 16) × Holds g (prior (mapOf s cells) (shutLeft (mapOf s cells) o) c) rows × Layers s g (shutLeft (mapOf s cells) o) v out₀ out c
+    (c ≤ d) × (length rows ≡ 16) × Holds g (prior (mapOf s cells) (shutLeft (mapOf s cells) o) c) rows
+    × Layers (mapOf s cells) g (shutLeft (mapOf s cells) o) v out₀ out c
 
 abbrev μ-loop : tie.MeasureT-loop
 μ-loop s cells o v out₀ g rows₀ d c₀ out rows c = d - c
@@ -75,7 +78,8 @@ over-requires c κs =
 
 add-layer-requires : tie.Need-add-layer-requires Inv-loop μ-loop
 add-layer-requires c κs =
-    let turn = c .before .before .before .before .before in
+    let over = c .before .before .before .before in
+    let turn = over .before .before in
     let at = turn .before in
     let w = at .before .before in
     let s = w .before .before .before .before .before in
@@ -85,7 +89,7 @@ add-layer-requires c κs =
     let L = at .loop .inv .3 in
     let k : at .loop .c ≤ g .z .steps = omega (arith, deep w, turn .loop-test .taken) in (
       record { sized = r .sized; held = held w; fits = λ t i. omega (arith, within w t i, r .fits, L .size) },
-      omega (arith, small w, c .before .before .before .over .ensures .size, at .loop .inv .1),
+      omega (arith, small w, over .over .ensures .0 .size, at .loop .inv .1),
       k,
       λ i j li lj.
           let n = within w (place i j (at .loop .c)) (record { x-le = li; y-le = lj; z-le = k }) in
@@ -94,8 +98,7 @@ add-layer-requires c κs =
 
 loop-again : tie.Need-loop-again Inv-loop μ-loop
 loop-again c =
-    let n = c .before .before in
-    let v = n .before .before .before .before in
+    let v = c .before .before in
     let at = v .before .before .before in
     let w = at .before .before in
     let s = w .before .before .before .before .before in
@@ -103,11 +106,17 @@ loop-again c =
     let m = mapOf (a .s) (now (a .cells)) in
     let g = w .whole .result in
     let Q : Shuts m g (shutLeft m (a .o)) = subst (λ g. Shuts m g (shutLeft m (a .o))) (sym (w .whole .ensures)) (shuts-whole m (a .o) (s .pre .0 .sized)) in
-    let H = over-holds m g (at .loop .c) (at .loop .rows) (v .over .last .1 .1 .1 .1 .0) (v .over .ensures) (shutLeft m (a .o)) Q (at .loop .inv .2) in (
+    let rows = v .over .last .1 .1 .1 .1 .0 in
+    let H = over-holds m g (at .loop .c) (at .loop .rows) rows (v .over .ensures .0) (shutLeft m (a .o)) Q (at .loop .inv .2) in
+    let hc : at .loop .c ≤ g .z .steps = omega (arith, deep w) in
+    let L = at .loop .inv .3 in
+    let more : List ℕ → Type 0 = λ new. Layers m g (shutLeft m (a .o)) (a .v) (now (a .out)) new (at .loop .c + 1) in (
       omega arith,
-      v .over .ensures .size ∙ at .loop .inv .1,
+      v .over .ensures .0 .size ∙ at .loop .inv .1,
       H,
-      layers-more m g (held w) _ _ _ _ (at .loop .c) (omega (arith, deep w)) (at .loop .inv .3) _ _ H (n .add-layer .ensures),
+      ⊎-elim (λ t. subst more (sym (t .6)) (layers-more m g (held w) _ _ _ _ (at .loop .c) hc L rows _ H (t .3 .ensures)))
+          (λ t. subst more (sym (t .1)) (layers-skip m g (held w) _ _ _ _ (at .loop .c) hc L rows H (v .over .ensures .1 (t .0 .left))))
+          (c .if2 .came),
     )
 
 returns-2 : tie.Need-returns-2 Inv-loop μ-loop
@@ -119,12 +128,12 @@ returns-2 c =
     let m = mapOf (a .s) (now (a .cells)) in
     let e : at .loop .c ≡ a .s .d = omega arith in
     swept-all m (a .o) (a .v) (now (a .out)) (at .loop .out) (s .pre .0 .sized)
-    (subst (λ g. Layers (a .s) g (shutLeft m (a .o)) (a .v) (now (a .out)) (at .loop .out) (a .s .d)) (w .whole .ensures)
-    (subst (λ (n : ℕ). Layers (a .s) (w .whole .result) (shutLeft m (a .o)) (a .v) (now (a .out)) (at .loop .out) n) e (at .loop .inv .3)))
+    (subst (λ g. Layers m g (shutLeft m (a .o)) (a .v) (now (a .out)) (at .loop .out) (a .s .d)) (w .whole .ensures)
+    (subst (λ (n : ℕ). Layers m (w .whole .result) (shutLeft m (a .o)) (a .v) (now (a .out)) (at .loop .out) n) e (at .loop .inv .3)))
 
 pub sweep-spec : {M : Type 1} → statement M
 sweep-spec =
     tie.close (tie.spec Inv-loop μ-loop any-blocked-requires returns (λ c κs. search needs) (λ c κs. search needs) loop-holds
     (λ c. sym (c .before .before .loop .inv .1)) over-requires
-    (λ c. sym (c .before .before .over .ensures .size ∙ c .before .before .before .before .before .loop .inv .1)) add-layer-requires
+    (λ c. sym (c .before .before .before .over .ensures .0 .size ∙ c .before .before .before .before .before .before .loop .inv .1)) add-layer-requires
     (λ c. omega arith) (λ c. omega arith) loop-again (λ c. c .before .loop .inv .3 .size) returns-2)
