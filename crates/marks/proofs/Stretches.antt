@@ -13,7 +13,7 @@ use lib.Dec.{T, ltb}
 use lib.ListN.{getD}
 use Rattle.mesh.specs.Tools.{bit}
 use Rattle.mesh.specs.Mesh.{Axis, X, Y, Z, on, place, nodes, number, InRange, Inside}
-use Rattle.mesh.specs.Steps.{runsDown, ahead}
+use Rattle.mesh.specs.Steps.{runsDown}
 use Rattle.mesh.specs.Cells.{Map, faulty, faultyCell, wall}
 use Rattle.rules.specs.Marks.{counted, flip, toGo, marked, stuck}
 use Rattle.mesh.proofs.Tests.{T-and, T-le, T-lt, holds-true, bool-ext}

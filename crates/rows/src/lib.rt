@@ -8,7 +8,7 @@ ghost use mathlib.Core.Path.{_≡_};
 ghost use Prim.Native.Nat.{ℕ, _+_, _^_, _≤_};
 ghost use Rattle.rows.specs.Row.{bitAt, swept};
 
-// One axis of a box of nodes: so many steps from a coordinate, down or up.
+// One axis of a box of nodes, or a row of their numbers: so many steps on from the first, down or up.
 pub struct Run {
     pub from: usize,
     pub steps: usize,
@@ -22,7 +22,8 @@ pub struct Between {
     pub z: Run,
 }
 
-// The sweep of a row: the carries of one addition. No bit is set where none of `pass` is.
+// The sweep of a row: the carries of one addition. No bit is set where none of `pass` is, so a link to such a node says nothing: where all links are live,
+// `pass` itself may be given for them.
 pub fn sweep_row(pass: u16, from: u16, link: u16) -> u16
     ensures { λ r. ⌜ ((k : ℕ) → bitAt r k ≡ swept (bitAt pass) (bitAt from) (bitAt link) k) ⌝ }
 {

@@ -51,7 +51,7 @@ pub fn seen_at(rows: &[u16], left: usize, a: usize, x: usize, b: usize, y: usize
     ((rows[b - y] >> (a - x)) % 2) as u8
 }
 
-// The same, and the ways into the layer's last node. The layer before is read where this one goes over it.
+// Layer c by `sweep_rows`, and the ways into its last node. The layer before is read where this one goes over it.
 pub fn over(g: Between, c: usize, faulty: &[u16], rows: &mut [u16]) -> Ways
     requires { ⌜ Rows g (now faulty) (now rows) ⌝ }
     ensures { λ r. ⌜ (length (now (rows .exit)) ≡ length (now (rows .entry)))
