@@ -1,4 +1,6 @@
 // What goes in and out at the boundary: sizes and places made from numbers, and the fields of each answer. include/dukthari.h declares the answers.
+#![tactic(auto)]
+
 ghost use Rattle.std.specs.Prelude.{◌≡◌};
 ghost use Rattle.mesh.specs.Mesh.{sizes, place};
 ghost use Rattle.mesh.specs.Answers.{refusal_bad, answer_bad};
@@ -11,14 +13,14 @@ use mesh::{Answer, Numbered, Place, Placed, Refusal, Sizes};
 use paths::Verdict;
 
 #[repr(C)]
-#[derive(Drop)]
+#[derive(Clone, Copy)]
 pub struct NodeAnswer {
     pub refusal: u32,
     pub node: u32,
 }
 
 #[repr(C)]
-#[derive(Drop)]
+#[derive(Clone, Copy)]
 pub struct PlaceAnswer {
     pub refusal: u32,
     pub x: u32,
@@ -28,7 +30,7 @@ pub struct PlaceAnswer {
 
 // there: 1, or 0 where the mesh ends.
 #[repr(C)]
-#[derive(Drop)]
+#[derive(Clone, Copy)]
 pub struct StepAnswer {
     pub refusal: u32,
     pub there: u32,
@@ -38,14 +40,14 @@ pub struct StepAnswer {
 }
 
 #[repr(C)]
-#[derive(Drop)]
+#[derive(Clone, Copy)]
 pub struct DoneAnswer {
     pub refusal: u32,
     pub bad: u32,
 }
 
 #[repr(C)]
-#[derive(Drop)]
+#[derive(Clone, Copy)]
 pub struct CountedAnswer {
     pub refusal: u32,
     pub bad: u32,
@@ -53,7 +55,7 @@ pub struct CountedAnswer {
 }
 
 #[repr(C)]
-#[derive(Drop)]
+#[derive(Clone, Copy)]
 pub struct VerdictAnswer {
     pub refusal: u32,
     pub bad: u32,
@@ -62,7 +64,7 @@ pub struct VerdictAnswer {
 }
 
 #[repr(C)]
-#[derive(Drop)]
+#[derive(Clone, Copy)]
 pub struct MapAnswer {
     pub refusal: u32,
     pub bad: u32,

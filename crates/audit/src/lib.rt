@@ -1,4 +1,5 @@
 // The audit of a log of transfers on a map: what stands above it, the text for each line, and the totals, proved byte by byte.
+#![tactic(auto)]
 
 pub mod auditing;
 pub mod counting;
@@ -7,7 +8,7 @@ pub mod running;
 pub mod usage;
 
 // How many lines were read; of these, transfers granted, refused for want of a path, and refused otherwise; and lines that are no pair.
-#[derive(Drop)]
+#[derive(Clone, Copy)]
 pub struct Totals {
     pub lines: usize,
     pub granted: usize,
@@ -17,7 +18,7 @@ pub struct Totals {
 }
 
 // The totals with a line, and how many bytes its text takes.
-#[derive(Drop)]
+#[derive(Clone, Copy)]
 pub struct Audited {
     pub totals: Totals,
     pub used: usize,

@@ -1,4 +1,5 @@
 // The components of a map: the call that finds them. What is found is defined in touching.
+#![tactic(auto)]
 
 pub mod entry;
 pub mod storing;
@@ -7,7 +8,7 @@ use mesh::Numbered;
 use touching::Component;
 
 // The answer, and the records that are still to be stored: none on a refusal.
-#[derive(Drop)]
+#[derive(Clone, Copy)]
 pub struct Outcome {
     pub answer: Numbered,
     pub count: usize,

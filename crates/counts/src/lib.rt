@@ -1,4 +1,6 @@
 // How many nodes are faulty, and how many hold a mark, counted by their bytes.
+#![tactic(auto)]
+
 ghost use Rattle.std.specs.Prelude.{◌≡◌, ◌<◌};
 ghost use Rattle.counts.specs.Counts.{faulty_among, with_bit};
 

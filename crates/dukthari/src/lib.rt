@@ -1,4 +1,6 @@
 // The C boundary: every public entry, thin, with no `requires`. include/dukthari.h declares it.
+#![tactic(auto)]
+
 ghost use Rattle.std.specs.Prelude.{◌≡◌, length};
 ghost use Rattle.mesh.specs.Mesh.{sizes, place};
 ghost use Rattle.mesh.specs.Answers.{number_answer, place_answer, step_answer};
@@ -21,7 +23,7 @@ mod grouping;
 pub mod states;
 
 // The fields of the answer for components, and the records that are still to be stored: none on a refusal.
-#[derive(Drop)]
+#[derive(Clone, Copy)]
 pub struct Grouped {
     pub answer: CountedAnswer,
     pub count: usize,

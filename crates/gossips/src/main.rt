@@ -1,4 +1,6 @@
 // Prints the rounds on each file that an argument names, under its name. What `gossip` prints is tried by it on several files in one run.
+#![tactic(auto)]
+
 use gossiping::running::run;
 use text::running::open_named;
 

@@ -1,4 +1,6 @@
 // The grid that the flood works on: the mesh laid into it, and the numbers copied out of it, row by row.
+#![tactic(auto)]
+
 ghost use Rattle.std.specs.Prelude.{◌≡◌, ℕ, ◌+◌, ◌*◌, ◌<◌, ◌≤◌, List, length, get_or, replicate};
 ghost use Rattle.mesh.specs.Mesh.{InRange, nodes};
 ghost use Rattle.mesh.specs.Fill.{Filled};
@@ -23,7 +25,7 @@ pub const FIRST: usize = 307;
 pub const SIZE: usize = 5220;
 
 // Where a row of the mesh begins: its first node, and that node's place in the grid.
-#[derive(Drop)]
+#[derive(Clone, Copy)]
 struct Row {
     node: usize,
     spot: usize,

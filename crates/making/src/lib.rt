@@ -1,4 +1,6 @@
 // Making a fresh state: heard words are 0, and own bytes follow from that. The nodes in their order, row by row.
+#![tactic(auto)]
+
 ghost use Rattle.std.specs.Prelude.{◌≡◌, ◌+◌, ◌*◌, ◌<◌, ◌≤◌, length};
 ghost use Rattle.mesh.specs.Mesh.{Inside, number};
 ghost use Rattle.mesh.specs.Cells.{map_of, state_length};

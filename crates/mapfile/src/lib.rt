@@ -1,4 +1,5 @@
 // The map file: its reader and its writer.
+#![tactic(auto)]
 
 pub mod reader;
 pub mod writer;

@@ -1,4 +1,5 @@
 // The marks of a map. Its specs/ say how it is swept; it needs no type of its own.
+#![tactic(auto)]
 
 pub mod blocked;
 pub mod bytes;

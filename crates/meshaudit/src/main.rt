@@ -1,4 +1,6 @@
 // Prints the audit of a log of transfers on a map. Arguments are a map file and a log, or several such pairs.
+#![tactic(auto)]
+
 use audit::running::run;
 use audit::usage::usage;
 use text::running::{open_named, print_front};

@@ -1,4 +1,6 @@
 // Prints the report on each file that an argument names, under its name. What `meshreport` prints is tried by it on many files in one run.
+#![tactic(auto)]
+
 use report::running::run;
 use text::running::open_named;
 

@@ -45,11 +45,8 @@ stored_one out at b h = rw add-one (append_assoc (take at out) (b ∷ []) (drop 
 pub stored_front : (out bytes : List ℕ) → stored out 0 bytes ≡ bytes ++ drop (length bytes) out
 stored_front out bytes = ap (λ (n : ℕ). bytes ++ drop n out) (zero-add (length bytes))
 
--- what is copied to the front of the part from a place on, and that part put back
-pub stored_part : (out : List ℕ) (at : ℕ) (bytes part : List ℕ)
-    → part ≡ take (length bytes) bytes ++ drop (length bytes) (take (length out - at) (drop at out))
-    → take at out ++ (part ++ drop (length out - at) (drop at out)) ≡ stored out at bytes
-stored_part out at bytes part e =
-    let size : length (drop at out) ≤ length out - at = omega (arith, length-drop at out) in
-    rw (e, take-length bytes, take_all (length out - at) (drop at out) size, drop_of_length-le (drop at out) size, append-nil, drop-drop (length bytes) at out)
-    (sym (append_assoc (take at out) bytes (drop (at + length bytes) out)))
+-- the part from a place on that is as long as the bytes, put back as the bytes
+pub stored_part : (out : List ℕ) (at n : ℕ) (bytes part : List ℕ) → part ≡ bytes → n ≡ length bytes
+    → take at out ++ (part ++ drop n (drop at out)) ≡ stored out at bytes
+stored_part out at n bytes part e f =
+    rw (e, f, drop-drop (length bytes) at out) (sym (append_assoc (take at out) bytes (drop (at + length bytes) out)))

@@ -1,4 +1,6 @@
 // Bytes in slices: all of one stored in another, and numbers of four bytes, the lowest first.
+#![tactic(auto)]
+
 ghost use Rattle.std.specs.Prelude.{◌≡◌, ◌+◌, ◌≤◌, length};
 ghost use Rattle.octets.specs.Stored.{stored};
 ghost use Rattle.octets.specs.LittleEndian.{four_bytes, little_endian};
@@ -8,7 +10,7 @@ pub fn put(bytes: &[u8], out: &mut [u8], at: usize)
     requires { at + length bytes.now ≤ length out.old }
     ensures { out.new ≡ stored out.old at bytes.now }
 {
-    bytes::copy(bytes, &mut out[at..]);
+    out[at..at + bytes.len()].copy_from_slice(bytes);
 }
 
 // The four lowest bytes of a number.

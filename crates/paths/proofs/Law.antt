@@ -6,7 +6,7 @@ use mathlib.Core.Bool.{Bool, true, false, cond, not}
 use mathlib.Core.List.{List}
 use Prim.Native.Nat.{ℕ}
 use native.Mathlib.Omega.{arith}
-use lib.Dec.{T, leb, ltb→lt, leb→le, le→leb, T-not}
+use lib.Dec.{T, leb, ltb→lt, leb→le, le→leb, T_not}
 use Rattle.mesh.specs.Tools.{implies}
 use Rattle.mesh.specs.Mesh.{Axis, X, Y, Z, span, on, Inside}
 use Rattle.mesh.specs.Steps.{next, along, ahead, runs_down}
@@ -32,7 +32,7 @@ carries c t = t
 
 no_wall : (m : Map) (p : Place) (j : ℕ) (r : Place) → T (linked m p j) → T (works m r) → T (wall m p j r) → ⊥
 unfolding wall
-no_wall m p j r l w t = T-not (faulty_cell (cell_at m r)) w t
+no_wall m p j r l w t = T_not (faulty_cell (cell_at m r)) w t
 
 entered : (m : Map) (e r : Place) → T (works m e) → T (may_enter m e r) → T (works m r)
 unfolding may_enter

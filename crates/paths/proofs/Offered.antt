@@ -8,7 +8,7 @@ use Prim.Native.Nat.{ℕ, zero, suc, ◌+◌, ◌*◌, ◌/◌, ◌%◌, ◌^◌
 use native.Mathlib.Omega.{arith}
 use lib.ListN.{length}
 use lib.Pow.{pow_pos}
-use lib.Dec.{T, T-not, ltb}
+use lib.Dec.{T, T_not, ltb}
 use borrow.Author.Tests.{ltb-true, ltb-false}
 use Rattle.mesh.specs.Tools.{bit, sum}
 use Rattle.mesh.specs.Mesh.{number, Inside}
@@ -158,7 +158,7 @@ module _ (m : Map) (e : Place) where
       none t j = bool_ext (offers m e p j) false
           (λ y.
           let (r, l, g, z, L) = (offers_iff m e p j i).0 y in
-          T-not (leads m e p e) t ((leads_iff m e p e i).1 (_, hop {l = l} j g z L)))
+          T_not (leads m e p e) t ((leads_iff m e p e i).1 (_, hop {l = l} j g z L)))
           (λ y. absurd y)
 
   routed : (n : ℕ) (p : Place) → Inside m.sizes p → hops p e ≡ n → T (leads m e p e) → Lowest m e p (route_within n m e p)

@@ -1,4 +1,5 @@
 // The report on a map file: its text, proved byte by byte, and the little that reads and prints.
+#![tactic(auto)]
 
 pub mod figuring;
 pub mod lines;
@@ -6,7 +7,7 @@ pub mod reporting;
 pub mod running;
 
 // The figures of a map in one orientation.
-#[derive(Drop)]
+#[derive(Clone, Copy)]
 pub struct Figures {
     pub useless: usize,
     pub cannot_reach: usize,

@@ -1,4 +1,5 @@
 // The talking nodes at work: words that are lost, repeated, late and out of order, round after round.
+#![tactic(auto)]
 
 pub mod chance;
 pub mod figuring;

@@ -1,4 +1,6 @@
 // A row of nodes as one number: bit k is that of the node k steps on.
+#![tactic(auto)]
+
 pub mod boxes;
 pub mod layer;
 pub mod pack;
@@ -8,7 +10,7 @@ ghost use Rattle.std.specs.Prelude.{◌≡◌, ℕ, ◌+◌, ◌^◌, ◌≤◌}
 ghost use Rattle.rows.specs.Row.{bit_at, swept};
 
 // One axis of a box of nodes, or a row of their numbers: so many steps on from the first, down or up.
-#[derive(Drop)]
+#[derive(Clone, Copy)]
 pub struct Run {
     pub from: usize,
     pub steps: usize,
@@ -16,7 +18,7 @@ pub struct Run {
 }
 
 // The nodes between two places, from the first towards the second.
-#[derive(Drop)]
+#[derive(Clone, Copy)]
 pub struct Between {
     pub x: Run,
     pub y: Run,

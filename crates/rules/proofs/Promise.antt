@@ -34,16 +34,16 @@ module _ (S : Sizes) (cells : List ℕ) (o : ℕ) (old : List ℕ) (orientation 
   new = marks_written S cells o old
 
   -- the marks written are the marks
-  marks_in : (k : Kind) (p : Place) → Inside S p → holds m o p k ≡ marks_in S new k p
-  marks_in k p i = sym (ap (λ (b : ℕ). has b k) (written_at S cells o old p i) ∙ mark_has m o p k i)
+  marks_in_lem : (k : Kind) (p : Place) → Inside S p → holds m o p k ≡ marks_in S new k p
+  marks_in_lem k p i = sym (ap (λ (b : ℕ). has b k) (written_at S cells o old p i) ∙ mark_has m o p k i)
 
   written_marked : Marked S cells o old new
   written_marked = record {
     one = λ p i. rw (written_at S cells o old p i) (mark_faulty m o p);
-    byte = λ p i w. written_at S cells o old p i ∙ mark_works m o p w ∙ ap byte_of (fun_ext λ k. marks_in k p i);
-    rules = rules_same m o (λ k p. holds m o p k) (marks_in S new) marks_in (rules_hold m o orientation);
-    only = λ marks r k p i. rules_only m o orientation marks r k p i ∙ marks_in k p i;
-    least = λ marks c k p i t. rules_least m o orientation marks c k p i (rw (marks_in k p i) t);
+    byte = λ p i w. written_at S cells o old p i ∙ mark_works m o p w ∙ ap byte_of (fun_ext λ k. marks_in_lem k p i);
+    rules = rules_same m o (λ k p. holds m o p k) (marks_in S new) marks_in_lem (rules_hold m o orientation);
+    only = λ marks r k p i. rules_only m o orientation marks r k p i ∙ marks_in_lem k p i;
+    least = λ marks c k p i t. rules_least m o orientation marks c k p i (rw (marks_in_lem k p i) t);
     kept = written_kept S cells o old;
     size = written_size S cells o old fits;
   }

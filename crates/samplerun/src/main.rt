@@ -1,5 +1,7 @@
 // Runs the sample that is too large for the table of samples: the map on standard input, in orientation 0. Prints each unsafe node with its mark
 // byte and its component's number, then each component's record. What it must print was written by the independent search program.
+#![tactic(auto)]
+
 use components::entry::compute;
 use format::MapRead;
 use libc::STDIN_FILENO;

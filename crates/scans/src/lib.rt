@@ -1,5 +1,7 @@
 // The one scan of a state: is it sound, and how many words are outstanding? The nodes in their order, row by row, each with six bytes at once, so
 // that what a byte holds leads to no branch.
+#![tactic(auto)]
+
 ghost use Rattle.std.specs.Prelude.{◌≡◌, ◌*◌, ◌<◌, ◌≤◌, eqb};
 ghost use Rattle.mesh.specs.Mesh.{Inside, number};
 ghost use Rattle.mesh.specs.Answers.{numbered, unless};
@@ -15,7 +17,7 @@ use states::sides::around;
 use states::six::{ONES, heard, ruled, some};
 
 // What is seen at a node, or in a row: 0 if all is right, and the words outstanding.
-#[derive(Drop)]
+#[derive(Clone, Copy)]
 pub struct Seen {
     pub wrong: u64,
     pub news: u64,

@@ -1,4 +1,5 @@
 // The sweep of the nodes between two places, from one of them on: which are seen, and the offered set that follows.
+#![tactic(auto)]
 
 pub mod bits;
 pub mod boxes;
@@ -6,7 +7,7 @@ pub mod offers;
 pub mod signed;
 
 // On each axis, 1 if the node one step nearer to the corner where a sweep began is there and seen, else 0.
-#[derive(Drop)]
+#[derive(Clone, Copy)]
 pub struct Ways {
     pub x: u8,
     pub y: u8,

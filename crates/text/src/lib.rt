@@ -1,4 +1,6 @@
 // Text into lent bytes: words, numbers in decimal, and forms with numbers in them.
+#![tactic(auto)]
+
 pub mod running;
 
 ghost use Rattle.std.specs.Prelude.{◌+◌, ◌*◌, ◌≤◌, length};

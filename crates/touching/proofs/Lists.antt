@@ -5,7 +5,7 @@ use mathlib.Core.Bool.{Bool, true, false, not, ◌&&◌}
 use mathlib.Core.List.{List, [], ◌∷◌}
 use Prim.Native.Nat.{ℕ, zero, suc, ◌+◌, ◌≤◌, ◌<◌}
 use native.Mathlib.Omega.{arith}
-use lib.Dec.{T, T-not, eqb, eqb→eq}
+use lib.Dec.{T, T_not, eqb, eqb→eq}
 use lib.ListN.{length, get_or}
 use Rattle.mesh.specs.Tools.{bit, table, sum, count}
 use Rattle.mesh.proofs.Tests.{T-or, T-eq, holds_true, tried}
@@ -73,10 +73,10 @@ T-keep p (j ∷ js) k = split (tried (p j)) (T-keep p js k)
       ],
       λ q. (T-in k j (keep p js)).1 (elim ((T-in k j js).0 q.0) [ inl e ↦ inl e | inr i ↦ inr (ih.1 (i, q.1)) ]),
     )
-    split (inr t) ih = rw (keep_no p j js (T-not (p j) t)) (
+    split (inr t) ih = rw (keep_no p j js (T_not (p j) t)) (
       λ h. let q = ih.0 h in ((T-in k j js).1 (inr q.0), q.1),
       λ q. elim ((T-in k j js).0 q.0) [
-        | inl e ↦ absurd (T-not (p j) t (subst (λ (n : ℕ). T (p n)) e q.1))
+        | inl e ↦ absurd (T_not (p j) t (subst (λ (n : ℕ). T (p n)) e q.1))
         | inr i ↦ ih.1 (i, q.1)
       ],
     )
@@ -88,7 +88,7 @@ keep_few p (j ∷ js) = split (tried (p j)) (keep_few p js)
   where
     split : T (p j) ⊎ T (not (p j)) → length (keep p js) ≤ length js → length (keep p (j ∷ js)) ≤ suc (length js)
     split (inl t) ih = rw (keep_yes p j js t) (omega arith)
-    split (inr t) ih = rw (keep_no p j js (T-not (p j) t)) (omega arith)
+    split (inr t) ih = rw (keep_no p j js (T_not (p j) t)) (omega arith)
 
 -- a weaker test keeps no less; and where it keeps no more, it keeps the same
 module _ (p q : ℕ → Bool) where
@@ -100,9 +100,9 @@ module _ (p q : ℕ → Bool) where
       split : T (p j) ⊎ T (not (p j)) → T (q j) ⊎ T (not (q j)) → length (keep p js) ≤ length (keep q js)
           → length (keep p (j ∷ js)) ≤ length (keep q (j ∷ js))
       split (inl s) (inl t) ih = rw (keep_yes p j js s, keep_yes q j js t) (omega arith)
-      split (inl s) (inr t) ih = absurd (T-not (q j) t (h j (in_first j js) s))
-      split (inr s) (inl t) ih = rw (keep_no p j js (T-not (p j) s), keep_yes q j js t) (omega arith)
-      split (inr s) (inr t) ih = rw (keep_no p j js (T-not (p j) s), keep_no q j js (T-not (q j) t)) ih
+      split (inl s) (inr t) ih = absurd (T_not (q j) t (h j (in_first j js) s))
+      split (inr s) (inl t) ih = rw (keep_no p j js (T_not (p j) s), keep_yes q j js t) (omega arith)
+      split (inr s) (inr t) ih = rw (keep_no p j js (T_not (p j) s), keep_no q j js (T_not (q j) t)) ih
 
   pub keep_tight : (l : List ℕ) → ((k : ℕ) → T (is_in k l) → T (p k) → T (q k)) → length (keep q l) ≤ length (keep p l) → keep q l ≡ keep p l
   unfolding keep
@@ -118,14 +118,14 @@ module _ (p q : ℕ → Bool) where
           let e = keep_yes p j js x in
           let f = keep_yes q j js y in
           f ∙ ap (λ (l : List ℕ). j ∷ l) (ih (omega (arith, ap length e, ap length f))) ∙ sym e
-      split (inl x) (inr y) ih = absurd (T-not (q j) y (h j (in_first j js) x))
+      split (inl x) (inr y) ih = absurd (T_not (q j) y (h j (in_first j js) x))
       split (inr x) (inl y) ih =
-          let e = keep_no p j js (T-not (p j) x) in
+          let e = keep_no p j js (T_not (p j) x) in
           let f = keep_yes q j js y in
           absurd (omega (arith, ap length e, ap length f, keep_le js below))
       split (inr x) (inr y) ih =
-          let e = keep_no p j js (T-not (p j) x) in
-          let f = keep_no q j js (T-not (q j) y) in
+          let e = keep_no p j js (T_not (p j) x) in
+          let f = keep_no q j js (T_not (q j) y) in
           f ∙ ih (omega (arith, ap length e, ap length f)) ∙ sym e
 
 -- tests that agree on the list keep the same
@@ -146,7 +146,7 @@ keep_ascends p (j ∷ js) a = split (tried (p j)) (keep_ascends p js a.1)
   where
     split : T (p j) ⊎ T (not (p j)) → Ascending (keep p js) → Ascending (keep p (j ∷ js))
     split (inl t) ih = rw (keep_yes p j js t) (λ k i. a.0 k ((T-keep p js k).0 i).0, ih)
-    split (inr t) ih = rw (keep_no p j js (T-not (p j) t)) ih
+    split (inr t) ih = rw (keep_no p j js (T_not (p j) t)) ih
 
 -- the first of a list that ascends is its lowest
 pub first_in : (l : List ℕ) (k : ℕ) → T (is_in k l) → T (is_in (get_or l 0 0) l)

@@ -7,7 +7,7 @@ use mathlib.Core.List.{List}
 use Prim.Native.Nat.{ℕ, zero, suc, ◌≤◌, ◌<◌}
 use native.Mathlib.Omega.{arith}
 use native.Mathlib.Nat.{le_antisymm}
-use lib.Dec.{T, T-not, not_T, eqb, ltb, ltb→lt, nltb→le}
+use lib.Dec.{T, T_not, not_T, eqb, ltb, ltb→lt, nltb→le}
 use lib.ListN.{length, get_or, get_or-eq_default}
 use lib.Seq.{ext_get_or}
 use Rattle.mesh.specs.Tools.{table}
@@ -87,7 +87,7 @@ module _ (S : Sizes) (marks : List ℕ) where
     | inl h ↦
         get_d_table (number_among S (unsafe_nodes marks) firsts) (length marks) a 0 (ltb→lt a (length marks) h)
         ∙ cond_false (is_in a (unsafe_nodes marks)) (rank firsts (low a)) 0
-        (not_T (is_in a (unsafe_nodes marks)) λ i. T-not (unsafe marks a) s ((T-unsafe marks a).0 i))
+        (not_T (is_in a (unsafe_nodes marks)) λ i. T_not (unsafe marks a) s ((T-unsafe marks a).0 i))
     | inr h ↦ get_or-eq_default (table_of S marks) 0 (omega (arith, table_size, nltb→le a (length marks) h))
   ]
 

@@ -1,4 +1,6 @@
 // The text for one transfer.
+#![tactic(auto)]
+
 ghost use Rattle.std.specs.Prelude.{◌≡◌, [], ◌∷◌, ◌+◌, ◌≤◌, length, get_or};
 ghost use Rattle.mesh.specs.declared.Answer.TheVariants.{Done};
 ghost use Rattle.mesh.specs.Mesh.{place_of};

@@ -1,0 +1,16 @@
+-- `rows::layer::add_layer` meets its contract: row after row. Assumes nothing.
+use mathlib.Core.Path.{subst}
+use Prim.Native.Nat.{◌-◌, ◌≤◌}
+use native.Mathlib.Omega.{arith}
+use borrow.Author.Rules.{rules}
+use Rattle.mesh.specs.Mesh.{Inside}
+use Rattle.rows.specs.Box.{largest, far, AddedRows}
+use Rattle.rows.proofs.Box.{far_in}
+use Rattle.rows.proofs.Adding.{added_none, turn_span, turn_room, added_more}
+use Rattle.rows.proofs.layer.add_layer.Given as goal
+
+abbrev pub invariant-loop-b : goal.invariant-loop-b
+invariant-loop-b l = (l.b ≤ l.n) × AddedRows l.s l.g l.c l.v l.rows l.initial.out l.out l.b
+
+abbrev pub decreases-loop-b : goal.decreases-loop-b
+decreases-loop-b l = l.n - l.b

@@ -1,0 +1,18 @@
+-- `rows::layer::faulty_layer` meets its contract: row after row. Assumes nothing.
+use mathlib.Core.Path.{◌≡◌, refl, subst}
+use Prim.Native.Nat.{◌+◌, ◌-◌, ◌≤◌, ◌<◌}
+use native.Mathlib.Omega.{arith}
+use lib.ListN.{length}
+use Rattle.mesh.specs.Mesh.{Inside}
+use Rattle.mesh.specs.Cells.{map_of}
+use Rattle.mesh.specs.Fill.{Filled}
+use Rattle.mesh.proofs.Fill.{fill_none, fill_more}
+use Rattle.rows.specs.Box.{largest, far, faulty_row}
+use Rattle.rows.proofs.Box.{far_in}
+use Rattle.rows.proofs.layer.faulty_layer.Given as goal
+
+abbrev pub invariant-loop-b : goal.invariant-loop-b
+invariant-loop-b l = (l.b ≤ l.n) × Filled (λ i. i) (λ i. faulty_row (map_of l.s l.cells) l.g i l.c) l.initial.rows l.rows l.b
+
+abbrev pub decreases-loop-b : goal.decreases-loop-b
+decreases-loop-b l = l.n - l.b

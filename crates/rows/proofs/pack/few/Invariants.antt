@@ -1,0 +1,14 @@
+-- `rows::pack::few` meets its contract: each turn puts one node more in front. Assumes nothing.
+use mathlib.Core.Path.{◌≡◌, sym}
+use Prim.Native.Nat.{◌+◌, ◌-◌, ◌≤◌, ◌<◌}
+use native.Mathlib.Omega.{arith}
+use borrow.Author.Rules.{rules}
+use Rattle.rows.specs.Row.{packed, says}
+use Rattle.rows.proofs.Packs.{bit_lt, few_none, few_lt, few_more, few_all}
+use Rattle.rows.proofs.pack.few.Given as goal
+
+abbrev pub invariant-loop-k : goal.invariant-loop-k
+invariant-loop-k l = (l.k ≤ l.w) × (l.bits ≡ packed (λ i. says l.cells l.j l.down l.from (l.k + i)) (l.w - l.k))
+
+abbrev pub decreases-loop-k : goal.decreases-loop-k
+decreases-loop-k l = l.k
