@@ -49,7 +49,7 @@ walk_last zero (goes j h k n w) d = absurd (some w (omega arith))
     some : {m : Map} {e p q : Place} {l : List ℕ} → Walk m e p q l → length l ≡ 0 → ⊥
     some (stands f) d = omega arith
     some (goes j h k n w) d = omega arith
-walk_last (suc n) (goes j h k _ w) d = walk_last n w (omega arith)
+walk_last {p = p} (suc n) (goes {r = r} j h k _ w) d = walk_last {p = r} n w (omega arith)
 
 -- ---- a direct walk
 

@@ -16,7 +16,7 @@ small : (c : Start) → Inside largest (far c.args.g)
 small c = let r = c.requires.0 in far_in c.args.s c.args.g r.sized r.held
 
 small_b : (c : After-faulty_row) → c.loop-b.b < 16
-small_b c = omega (arith, small c.before.before.before.before.before.before)
+small_b c = let r = c.requires.0 in omega (arith, far_in c.args.s c.args.g r.sized r.held)
 
 room : (c : After-faulty_row) → c.loop-b.b < length c.loop-b.rows
 room c = let s = c in omega (arith, s.requires.3, c.loop-b.invariant.1.size)
