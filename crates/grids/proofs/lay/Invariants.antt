@@ -1,0 +1,13 @@
+-- `grids::lay` meets its contract. The loop's invariant: the layers below `z` are laid. Assumes nothing.
+use mathlib.Core.Path.{subst}
+use Prim.Native.Nat.{ℕ, ◌+◌, ◌-◌, ◌*◌, ◌≤◌}
+use native.Mathlib.Omega.{arith}
+use Rattle.grids.specs.Layout.{Laid}
+use Rattle.grids.proofs.Layouts.{laid_none, all_laid}
+use Rattle.grids.proofs.lay.Given as goal
+
+abbrev pub invariant-loop-z : goal.invariant-loop-z
+invariant-loop-z l = (l.z ≤ l.s.d) × Laid l.s l.marks (307 + 289 * l.z) l.grid
+
+abbrev pub decreases-loop-z : goal.decreases-loop-z
+decreases-loop-z l = l.s.d - l.z

@@ -1,0 +1,14 @@
+-- `grids::lay_layer` meets its contract. The loop's invariant: the rows below `y` are laid. Assumes nothing.
+use mathlib.Core.Path.{subst}
+use Prim.Native.Nat.{ℕ, ◌+◌, ◌-◌, ◌*◌, ◌≤◌}
+use native.Mathlib.Omega.{arith}
+use borrow.Author.Rules.{rules}
+use Rattle.grids.specs.Layout.{Laid}
+use Rattle.grids.proofs.Layouts.{row_laid, layer_laid}
+use Rattle.grids.proofs.lay_layer.Given as goal
+
+abbrev pub invariant-loop-y : goal.invariant-loop-y
+invariant-loop-y l = (l.y ≤ l.s.h) × Laid l.s l.marks (307 + (17 * l.y + 289 * l.z)) l.grid
+
+abbrev pub decreases-loop-y : goal.decreases-loop-y
+decreases-loop-y l = l.s.h - l.y

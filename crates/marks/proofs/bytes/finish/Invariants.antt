@@ -1,0 +1,15 @@
+-- `marks::bytes::finish` meets its contract: turn i reads byte i, which no turn before it wrote. Assumes nothing.
+use mathlib.Core.Path.{◌≡◌, refl, ap, ◌∙◌, subst}
+use Prim.Native.Nat.{ℕ, ◌-◌, ◌≤◌}
+use native.Mathlib.Omega.{arith}
+use borrow.Author.Rules.{rules}
+use lib.ListN.{get_or}
+use Rattle.mesh.proofs.Fill.{fill_none, fill_more}
+use Rattle.marks.specs.Sweep.{mark_of, Finished}
+use Rattle.marks.proofs.bytes.finish.Given as goal
+
+abbrev pub invariant-loop-i : goal.invariant-loop-i
+invariant-loop-i l = (l.i ≤ l.n) × Finished l.cells l.initial.out l.out l.i
+
+abbrev pub decreases-loop-i : goal.decreases-loop-i
+decreases-loop-i l = l.n - l.i

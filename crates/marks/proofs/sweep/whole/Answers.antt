@@ -1,0 +1,6 @@
+-- `marks::sweep::whole` meets its contract. Assumes nothing.
+use borrow.Author.Rules.{rules}
+use Rattle.marks.proofs.sweep.whole.Goals as goal
+
+pub returns : goal.returns
+returns c = rw (c.axis.ensures, c.axis-2.ensures, c.axis-3.ensures)
