@@ -19,7 +19,7 @@ returns-in_default c =
     let a = m.args in
     let new = marks_written a.s a.cells.now a.orientation a.out.now in
     let e = m.marks_answer-a.ensures in
-    (e, sym (kept _ _ new a.out.now (sym e ∙ c.in_default.is)))
+    record { value = e; out_after = sym (kept _ _ new a.out.now (sym e ∙ c.in_default.is)) }
 
 pub mark_all-requires : goal.mark_all-requires
 mark_all-requires c =
@@ -32,4 +32,4 @@ pub returns : goal.returns
 returns c =
     let k = c in
     let t = c in
-    (t.marks_answer-a.ensures, rw (in_order (goal.at.returns c).In-Done) k.mark_all.ensures)
+    record { value = t.marks_answer-a.ensures; out_after = rw (in_order (goal.at.returns c).In-Done) k.mark_all.ensures }

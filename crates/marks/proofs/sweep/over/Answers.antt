@@ -21,14 +21,11 @@ use Rattle.marks.proofs.sweep.over.Goals.{In-loop-b, Start}
 small : (c : Start) → Inside largest (far c.args.g)
 small c = let r = c.requires.0 in far_in c.args.s c.args.g r.sized r.held
 
-abbrev start : In-loop-b → Start
-start c = c.before.before.before.before.before.before.before.before
-
 small_b : (c : In-loop-b) → c.loop-b.b < 16
-small_b c = omega (arith, small (start c))
+small_b c = let r = c.requires.0 in omega (arith, far_in c.args.s c.args.g r.sized r.held)
 
 room : (c : In-loop-b) → c.loop-b.b < length c.loop-b.rows
-room c = omega (arith, small_b c, (start c).requires.2, c.loop-b.invariant.2)
+room c = omega (arith, small_b c, c.requires.2, c.loop-b.invariant.2)
 
 pub overflow_add-n : goal.overflow_add-n
 overflow_add-n c = omega (arith, small (goal.at.overflow_add-n c).Start)
@@ -43,11 +40,10 @@ loop-b-init c =
 
 pub loop-b-preserved : goal.loop-b-preserved
 loop-b-preserved c =
-    let i = c in
-    let a = (start i).args in
-    let l = i.loop-b in
+    let a = c.args in
+    let l = c.loop-b in
     let v = c.sweep_row-last.result in
-    let dead = i.faulty_layer.new.rows in
+    let dead = c.faulty_layer.new.rows in
     let faulty = get_or dead l.b 0 in (
       omega arith,
       before_more l.rows l.b v (room (goal.at.loop-b-preserved c).In-loop-b),
@@ -65,7 +61,7 @@ returns c =
     let a = s.args in
     let m = map_of a.s a.cells.now in
     let f = c.faulty_layer in
-    let dead = f.new.1.1.1.1.0 in
+    let dead = f.new.rows in
     let e : l.b ≡ a.g.y.steps + 1 = omega arith in
     let told : (b : ℕ) → b ≤ a.g.y.steps → get_or dead b 0 ≡ faulty_row m a.g b a.c = λ b h. f.ensures.at b (omega arith) in (
       subst (Over m a.g a.c a.rows.now l.rows) e (l.invariant.3 m a.g (s.requires.3, told) refl),
@@ -76,7 +72,7 @@ pub slice_bounds-faulty_layer-end : goal.slice_bounds-faulty_layer-end
 slice_bounds-faulty_layer-end c = refl
 
 pub offset_bounds-faulty-b : goal.offset_bounds-faulty-b
-offset_bounds-faulty-b c = omega (arith, small_b (goal.at.offset_bounds-faulty-b c).In-loop-b)
+offset_bounds-faulty-b c = omega (arith, small (goal.at.offset_bounds-faulty-b c).Start)
 
 pub offset_bounds-rows-b : goal.offset_bounds-rows-b
 offset_bounds-rows-b c = omega (arith, small_b (goal.at.offset_bounds-rows-b c).In-loop-b)

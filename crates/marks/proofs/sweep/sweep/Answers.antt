@@ -17,7 +17,7 @@ use Rattle.marks.specs.Sweep.{whole, prior, Shuts, Holds, Layers}
 use Rattle.marks.proofs.Rows.{whole_held, shut_left, shuts_whole, beyond_holds, over_holds}
 use Rattle.marks.proofs.Added.{layers_none, fresh, layers_more, layers_skip, swept_none, swept_all}
 use Rattle.marks.proofs.sweep.sweep.Goals as goal
-use Rattle.marks.proofs.sweep.sweep.Goals.{After-whole-g}
+use Rattle.marks.proofs.sweep.sweep.Goals.{After-whole-g, then-stuck-ne0, else-stuck-ne0}
 
 -- the box of all nodes
 held : (c : After-whole-g) → Held c.args.s c.whole-g.result
@@ -105,9 +105,10 @@ loop-c-preserved c =
       omega arith,
       v.over-stuck.ensures.0.size ∙ at.loop-c.invariant.1,
       H,
-      ⊎_elim (λ t. subst more (sym t.6) (layers_more m g (held (goal.at.loop-c-preserved c).After-whole-g) _ _ _ _ at.loop-c.c hc L rows _ H t.3.ensures))
-          (λ t. subst more (sym t.1) (layers_skip m g (held (goal.at.loop-c-preserved c).After-whole-g) _ _ _ _ at.loop-c.c hc L rows H (v.over-stuck.ensures.1 t.0.left)))
-          c.if-stuck-ne0.branch,
+      elim c.if-stuck-ne0.branch [
+        | then-stuck-ne0 b ↦ subst more (sym b.out-is) (layers_more m g (held (goal.at.loop-c-preserved c).After-whole-g) _ _ _ _ at.loop-c.c hc L rows _ H b.add_layer.ensures)
+        | else-stuck-ne0 b ↦ subst more (sym b.out-is) (layers_skip m g (held (goal.at.loop-c-preserved c).After-whole-g) _ _ _ _ at.loop-c.c hc L rows H (v.over-stuck.ensures.1 b.if-stuck-ne0.false))
+      ],
     )
 
 pub returns : goal.returns
