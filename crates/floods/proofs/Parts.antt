@@ -157,10 +157,10 @@ module _ (g : List ℕ) (m : ℕ) (fresh : (j : ℕ) → get_or g j 0 ≡ m → 
   part_none q a = record { kept = λ j. inl refl; each = λ t h. absurd (omega arith); all = λ j e. absurd (fresh j e) }
 
   -- the first place
-  pub begins : {q h r : List ℕ} {a end : ℕ} → Sized g q → m < unseen → a < grid_size → get_or g a 0 ≡ unseen → Visited g q 0 a m h r end
+  pub begins : {a : ℕ} {q h r : List ℕ} {end : ℕ} → Sized g q → m < unseen → a < grid_size → get_or g a 0 ≡ unseen → Visited g q 0 a m h r end
       → Part g a m h r end × (how_often h m ≡ end) × (get_or h a 0 ≡ unseen → ⊥)
   begins s small l u (passed n) = absurd (n u)
-  begins {q} {a = a} s small l u (entered _) =
+  begins {a} {q} s small l u (entered _) =
       let at : a < length g = omega (arith, s.grid) in (
         part_entered g q 0 a m s l (omega arith) (part_none q a) here u,
         often_more g a m at (λ e. omega arith) ∙ ap suc none_yet,

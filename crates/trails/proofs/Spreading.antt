@@ -73,8 +73,8 @@ module _ (m : Map) (s e : Place) (s_in : Inside m.sizes s) (e_in : Inside m.size
             ap bit (at_node t w (λ k. off (f ∙ k)) ∙ ap (leads m e s) (sym f) ∙ h))
             (C.at (number m.sizes q) (number_lt m.sizes q i))
 
-    pub reached_written : (v : ℕ) → v ≡ bit (leads m e s e) → set mid (number m.sizes e) v ≡ reached m s e ++ drop (nodes m.sizes) old
-    reached_written v h = front (reached m s e) old (set mid (number m.sizes e) v) (nodes m.sizes)
+    pub reached_written_lem : (v : ℕ) → v ≡ bit (leads m e s e) → set mid (number m.sizes e) v ≡ reached m s e ++ drop (nodes m.sizes) old
+    reached_written_lem v h = front (reached m s e) old (set mid (number m.sizes e) v) (nodes m.sizes)
         (reached_length m s e) room (length-set mid (number m.sizes e) v ∙ W.size ∙ C.size)
         (λ k i. low k i (eqb k (number m.sizes e)) refl)
         (λ k i.

@@ -1,0 +1,118 @@
+-- `trails::follow::write_route` meets its contract: the table is that of the box from the end, and the way through it is the route.
+-- Assumes nothing.
+use mathlib.Core.Path.{◌≡◌, sym, ap, ◌∙◌, subst}
+use mathlib.Core.Bool.{not, ◌||◌}
+use mathlib.Core.List.{List}
+use Prim.Native.Nat.{ℕ, ◌+◌, ◌≤◌}
+use borrow.Author.Rules.{rules}
+use borrow.Author.Tests.{not-true, not-false}
+use lib.ListN.{length}
+use lib.Dec.{eqb}
+use Rattle.mesh.specs.Mesh.{number}
+use Rattle.mesh.specs.Cells.{Map, map_of}
+use Rattle.mesh.specs.Fill.{Filled}
+use Rattle.mesh.proofs.Tests.{holds_true}
+use Rattle.mesh.specs.declared.Sizes.{Sizes}
+use Rattle.paths.specs.Differences.{hops}
+use Rattle.paths.specs.Paths.{leads}
+use Rattle.rows.specs.Box.{between, reach, far, Ready}
+use Rattle.sweeps.specs.Sweep.{WaysTo, ways_of}
+use Rattle.sweeps.proofs.Runs.{held}
+use Rattle.sweeps.proofs.Seen.{ways_le}
+use Rattle.sweeps.proofs.Backward.{ahead, from_end}
+use Rattle.sweeps.specs.declared.Ways.{Ways}
+use Rattle.rows.specs.declared.Between.{Between}
+use Rattle.trails.specs.Table.{Table, trail}
+use Rattle.trails.proofs.Trails.{granted_is}
+use Rattle.trails.proofs.Routing.{routed_10, routed_3, routed_0, route_written_lem}
+use Rattle.trails.proofs.follow.write_route.Goals as goal
+use Rattle.trails.proofs.follow.write_route.Goals.{After-lay_all-w, After-leads_on, Start}
+
+-- the map, and the box from the end
+ready : (c : Start) → Ready c.args.s c.args.cells.now (between c.args.e c.args.p)
+ready c = record { sized = c.requires.sized; whole = c.requires.whole; held = held c.args.s c.args.e c.args.p c.requires.end_in c.requires.start_in }
+
+-- the table has every layer, and the ways from the start are what is seen
+box_is : (c : After-lay_all-w) → c.between-g.result ≡ between c.args.e c.args.p
+box_is c = c.between-g.ensures
+
+full : (c : After-lay_all-w) →
+    let s = c in
+    Table (map_of c.args.s c.args.cells.now) (between c.args.e c.args.p) ((between c.args.e c.args.p).z.steps + 1) c.lay_all-w.new.table
+full c =
+    let s = c in
+    subst (λ (g : Between). Table (map_of c.args.s c.args.cells.now) g (g.z.steps + 1) c.lay_all-w.new.table) (box_is c) c.lay_all-w.ensures.1
+
+ways : (c : After-lay_all-w) →
+    let s = c in
+    c.lay_all-w.result ≡ ways_of (ahead (map_of c.args.s c.args.cells.now) s.args.p s.args.e s.requires.start_in s.requires.end_in) (far (between c.args.e c.args.p))
+ways c =
+    let s = c in
+    subst (λ (g : Between). WaysTo (map_of c.args.s c.args.cells.now) g (far g) c.lay_all-w.result) (box_is c) c.lay_all-w.ensures.0
+    (ahead (map_of c.args.s c.args.cells.now) s.args.p s.args.e s.requires.start_in s.requires.end_in)
+    (from_end (map_of c.args.s c.args.cells.now) s.args.p s.args.e s.requires.start_in s.requires.end_in s.requires.end_may)
+
+-- what `leads_on` answers is whether there is a path
+asked : (h h' : ℕ) (w : Ways) → h ≡ h' → (eqb h 0 || not (eqb (w.x + w.y + w.z) 0)) ≡ (eqb h' 0 || not (eqb (w.x + w.y + w.z) 0))
+asked h h' w e = rw e
+
+told : (c : After-leads_on) →
+    let s = c in
+    leads (map_of c.args.s c.args.cells.now) s.args.e s.args.p s.args.e ≡ c.leads_on.result
+told c =
+    let w = c in
+    let h = c in
+    let s = c in
+    granted_is (map_of c.args.s c.args.cells.now) s.args.p s.args.e s.requires.start_in s.requires.end_in s.requires.end_may w.lay_all-w.result (subst (λ (g : Between). WaysTo (map_of c.args.s c.args.cells.now) g (far g) c.lay_all-w.result) c.between-g.ensures c.lay_all-w.ensures.0
+    (ahead (map_of c.args.s c.args.cells.now) s.args.p s.args.e s.requires.start_in s.requires.end_in)
+    (from_end (map_of c.args.s c.args.cells.now) s.args.p s.args.e s.requires.start_in s.requires.end_in s.requires.end_may))
+    ∙ sym (c.leads_on.ensures ∙ asked _ _ w.lay_all-w.result h.hops-h.ensures.0)
+
+filled_by : (S : Sizes) (table old new : List ℕ) (g g' : Between) (n n' : ℕ) → g ≡ g' → n ≡ n'
+    → Filled (λ i. i) (λ i. number S (reach g (trail g table i))) old new n
+    → Filled (λ i. i) (λ i. number S (reach g' (trail g' table i))) old new n'
+filled_by S table old new g g' n n' e f F = rw (← e, ← f) F
+
+pub lay_all-w-requires : goal.lay_all-w-requires
+lay_all-w-requires c =
+    let s = c in
+    rw c.between-g.ensures (ready (goal.at.lay_all-w-requires c).Start, s.requires.good, c.blank-table.ensures)
+
+pub leads_on-requires : goal.leads_on-requires
+leads_on-requires c =
+    let w = c in
+    let s = c in
+    ways_le w.lay_all-w.result (ahead (map_of c.args.s c.args.cells.now) s.args.p s.args.e s.requires.start_in s.requires.end_in) (far (between c.args.e c.args.p)) (ways (goal.at.leads_on-requires c).After-lay_all-w)
+
+pub returns-then-not-leads_on : goal.returns-then-not-leads_on
+returns-then-not-leads_on c =
+    let s = c in
+    routed_10 (map_of c.args.s c.args.cells.now) s.args.p s.args.e s.args.out.now (told (goal.at.returns-then-not-leads_on c).After-leads_on ∙ c.if-not-leads_on.true)
+
+pub returns-then-out-n : goal.returns-then-out-n
+returns-then-out-n c =
+    let h = c in
+    let s = c in
+    routed_3 (map_of c.args.s c.args.cells.now) s.args.p s.args.e s.args.out.now (told (goal.at.returns-then-out-n c).After-leads_on ∙ c.if-not-leads_on.false) (rw h.hops-h.ensures.0 at c.if-out-n.true)
+
+pub follow-requires : goal.follow-requires
+follow-requires c =
+    let k = c in
+    let s = c in
+    rw (box_is (goal.at.follow-requires c).After-lay_all-w) (s.requires.sized, (ready (goal.at.follow-requires c).Start).held, k.lay_all-w.auto.table ∙ k.blank-table.ensures, c.if-out-n.false)
+
+pub returns : goal.returns
+returns c =
+    let f = c in
+    let i = c in
+    let k = c in
+    let h = c in
+    let s = c in
+    let l = told (goal.at.returns c).After-leads_on ∙ i.if-not-leads_on.false in
+    let n : h.hops-h.result + 1 ≡ hops s.args.p s.args.e + 1 = ap (λ (j : ℕ). j + 1) h.hops-h.ensures.0 in
+    let room : hops s.args.p s.args.e + 1 ≤ length s.args.out.now = rw h.hops-h.ensures.0 at i.if-out-n.false in
+    rw n (routed_0 (map_of c.args.s c.args.cells.now) s.args.p s.args.e s.args.out.now l room f.follow.new.out
+    (route_written_lem (map_of c.args.s c.args.cells.now) s.args.p s.args.e s.requires.start_in s.requires.end_in s.requires.end_may k.lay_all-w.new.table (full (goal.at.returns c).After-lay_all-w)
+    s.args.out.now f.follow.new.out ((holds_true (leads (map_of c.args.s c.args.cells.now) s.args.e s.args.p s.args.e)).1 l) room
+    (filled_by s.args.s k.lay_all-w.new.table s.args.out.now f.follow.new.out k.between-g.result (between c.args.e c.args.p) _ _
+    k.between-g.ensures n f.follow.ensures)))
