@@ -1,4 +1,3 @@
 pub mod Spots
 pub mod Nodes
 pub mod Outcomes
-pub mod Held

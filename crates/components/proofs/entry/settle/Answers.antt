@@ -1,0 +1,58 @@
+-- `components::entry::settle` meets its contract: the refusals in their order, and then the table. Assumes nothing.
+use Prim.Native.Nat.{◌≤◌}
+use native.Mathlib.Omega.{arith}
+use borrow.Author.Rules.{rules}
+use borrow.Author.Tests.{lt-leb, le-leb}
+use lib.ListN.{length}
+use Rattle.mesh.specs.Mesh.{nodes}
+use Rattle.mesh.specs.declared.Refusal.TheVariants.{NoRoom}
+use Rattle.components.proofs.Outcomes.{answered_refused, answered_granted}
+use Rattle.components.proofs.entry.settle.Goals as goal
+use Rattle.components.proofs.entry.settle.Goals.{Else-table-nodes}
+
+-- there is room for the table
+fits : (c : Else-table-nodes) → let a = c.args in nodes a.s ≤ length a.table.now
+fits c = omega (arith, c.if-table-nodes.false, c.nodes.ensures.0)
+
+pub returns-in-Refused : goal.returns-in-Refused
+returns-in-Refused c =
+    let a = c.args in
+    answered_refused a.s a.checked a.grid.now a.count a.room a.table.now _ (rw c.in-Refused.is)
+
+pub nodes-requires : goal.nodes-requires
+nodes-requires c = c.requires.0 c.in_default.is
+
+pub returns-then-table-nodes : goal.returns-then-table-nodes
+returns-then-table-nodes c =
+    let n = c in
+    let a = n.args in
+    answered_refused a.s a.checked a.grid.now a.count a.room a.table.now NoRoom
+    (rw (n.in_default.is, lt-leb (nodes a.s) (length a.table.now) (omega (arith, c.if-table-nodes.true, n.nodes.ensures.0))))
+
+pub returns-then-room-count : goal.returns-then-room-count
+returns-then-room-count c =
+    let n = c in
+    let a = n.args in
+    answered_refused a.s a.checked a.grid.now a.count a.room a.table.now NoRoom
+    (rw (
+      n.in_default.is,
+      le-leb (nodes a.s) (length a.table.now) (fits (goal.at.returns-then-room-count c).Else-table-nodes),
+      lt-leb a.count
+          a.room c.if-room-count.true,
+    ))
+
+pub copy_out-requires : goal.copy_out-requires
+copy_out-requires c =
+    let t = c in
+    let s = c in
+    (s.requires.0 t.in_default.is, s.requires.1, fits (goal.at.copy_out-requires c).Else-table-nodes)
+
+pub returns : goal.returns
+returns c =
+    let w = c in
+    let e = c in
+    let t = c in
+    let a = t.args in
+    answered_granted a.s a.checked a.grid.now a.count a.room a.table.now w.copy_out.new.table
+    (rw (t.in_default.is, le-leb (nodes a.s) (length a.table.now) (fits (goal.at.returns c).Else-table-nodes), le-leb a.count a.room e.if-room-count.false))
+    w.copy_out.ensures
