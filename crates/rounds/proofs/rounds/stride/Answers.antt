@@ -6,18 +6,13 @@ use lib.ListN.{get_or}
 use Rattle.mesh.specs.Tools.{all}
 use Rattle.mesh.proofs.Tests.{T-all, T-le}
 use Rattle.rounds.specs.Rounds.{strides}
-use borrow.Author.Rules.{rules}
-use Rattle.rounds.proofs.rounds.stride.Statement.{statement}
-use Rattle.rounds.proofs.rounds.stride.Tie as tie
+use Rattle.rounds.proofs.rounds.stride.Goals as goal
 
 low : (k : ℕ) → k < 4 → get_or strides k 0 ≤ 24631
 unfolding all
 low k h = (T-le (get_or strides k 0) 24631).0 ((T-all 4 (λ k. leb (get_or strides k 0) 24631)).0 tt k h)
 
-returns : tie.Need-returns
+pub returns : goal.returns
 returns c =
     let k = c.chosen.result in
     (ap (λ (i : ℕ). get_or strides i 0) c.chosen.ensures.0, low k c.chosen.ensures.1)
-
-pub stride_spec : {M : Type 1} → statement M
-stride_spec = tie.close (tie.spec (λ c κs. search rules) (λ c. search rules) (λ c. search rules) returns)
