@@ -38,16 +38,16 @@ module _ (m : Map) (o : ℕ) where
   abbrev byte_at : ℕ → ℕ
   byte_at i = fresh_byte m o (i / 7) (i % 7)
 
-  fresh_own : (k : ℕ) → k < nodes m.sizes → own s k ≡ fresh_own m o k
+  fresh_own_lem : (k : ℕ) → k < nodes m.sizes → own s k ≡ fresh_own m o k
   unfolding fresh
-  fresh_own k h =
+  fresh_own_lem k h =
       let e : 7 * k / 7 ≡ k = omega arith in
       let f : 7 * k % 7 ≡ 0 = omega arith in
       get_d_table byte_at (state_length m.sizes) (7 * k) 0 (omega arith) ∙ ap₂ (fresh_byte m o) e f
 
-  pub fresh_heard : (k j : ℕ) → k < nodes m.sizes → j < 6 → heard s k j ≡ fresh_heard m k j
+  pub fresh_heard_lem : (k j : ℕ) → k < nodes m.sizes → j < 6 → heard s k j ≡ fresh_heard m k j
   unfolding fresh
-  fresh_heard k j h l =
+  fresh_heard_lem k j h l =
       let e : (7 * k + 1 + j) / 7 ≡ k = omega arith in
       let f : (7 * k + 1 + j) % 7 ≡ suc j = omega arith in
       get_d_table byte_at (state_length m.sizes) (7 * k + 1 + j) 0 (omega arith) ∙ ap₂ (fresh_byte m o) e f
@@ -56,20 +56,20 @@ module _ (m : Map) (o : ℕ) where
     -- a working node has heard its neighbours say 0, and goes by that
     reads : (j : ℕ) → j < 6 → heard s k j ≡ read_at m (λ q. 0) (p k) j
     unfolding fresh_heard
-    reads j h = fresh_heard k j l h ∙ cond_false (faulty_node m k) (faulty_hears m (p k) j) (read_at m (λ q. 0) (p k) j) w
+    reads j h = fresh_heard_lem k j l h ∙ cond_false (faulty_node m k) (faulty_hears m (p k) j) (read_at m (λ q. 0) (p k) j) w
 
     leads : (j : ℕ) (n : Next) → j < 6 → next m.sizes (p k) j ≡ n → heard s k j ≡ read_by m (λ q. 0) (p k) j n
     leads j n h e = reads j h ∙ ap (read_by m (λ q. 0) (p k) j) e
 
     rules : own s k ≡ rule_byte m.sizes o (fresh_heard m k)
     unfolding fresh_own
-    rules = fresh_own k l ∙ cond_false (faulty_node m k) 1 (rule_byte m.sizes o (fresh_heard m k)) w
+    rules = fresh_own_lem k l ∙ cond_false (faulty_node m k) 1 (rule_byte m.sizes o (fresh_heard m k)) w
 
     near : own s k ≡ byte_of λ a. stuck_within 1 m (heading o a) (p k)
     unfolding stuck_within marked has is_word
     near =
         rules
-        ∙ ruled_same m.sizes o (fresh_heard m k) (read_at m (λ q. 0) (p k)) (λ j h. sym (fresh_heard k j l h) ∙ reads j h)
+        ∙ ruled_same m.sizes o (fresh_heard m k) (read_at m (λ q. 0) (p k)) (λ j h. sym (fresh_heard_lem k j l h) ∙ reads j h)
         ∙ byte_rule m (λ q. 0) (p k) o (λ j q e n. tt)
         ∙ ap byte_of (fun_ext (elim [ useless ↦ step (heading o useless) | cant_reach ↦ step (heading o cant_reach) ]))
       where
@@ -86,10 +86,10 @@ module _ (m : Map) (o : ℕ) where
   fresh_sound = record {
     long = length_table byte_at (state_length m.sizes);
     failed = λ k l f. (
-      fresh_own k l ∙ cond_true (faulty_node m k) 1 (rule_byte m.sizes o (fresh_heard m k)) f,
-      λ j h. fresh_heard k j l h ∙ cond_true (faulty_node m k) (faulty_hears m (p k) j) (read_at m (λ q. 0) (p k) j) f,
+      fresh_own_lem k l ∙ cond_true (faulty_node m k) 1 (rule_byte m.sizes o (fresh_heard m k)) f,
+      λ j h. fresh_heard_lem k j l h ∙ cond_true (faulty_node m k) (faulty_hears m (p k) j) (read_at m (λ q. 0) (p k) j) f,
     );
-    ruled = λ k l w. rules k l w ∙ ruled_same m.sizes o (fresh_heard m k) (heard s k) (λ j h. sym (fresh_heard k j l h));
+    ruled = λ k l w. rules k l w ∙ ruled_same m.sizes o (fresh_heard m k) (heard s k) (λ j h. sym (fresh_heard_lem k j l h));
     edge = λ k j l w h e. leads k l w j Edge h e;
     walled = λ k j q l w e b. leads k l w j (At q) (dir_led m.sizes (p k) q j e) e ∙ cond_true (wall m (p k) j q) 1 0 b;
     words = λ k j t. rw (silent k j t) (tt, none_within (says m.sizes s k j));

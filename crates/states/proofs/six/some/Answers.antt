@@ -1,0 +1,15 @@
+-- `states::six::some` meets its contract: the top bit of each byte tells. Assumes nothing.
+use native.Mathlib.Omega.{arith}
+use Prim.Native.Nat.{◌+◌}
+use lib.Bits.{bit_and, bit_or, and_le_r}
+use Rattle.states.specs.Six.{byte_at}
+use Rattle.states.proofs.Beside.{byte_lt, six_bytes, some_six}
+use Rattle.states.proofs.six.some.Goals as goal
+
+pub overflow_add-result : goal.overflow_add-result
+overflow_add-result c = omega (arith, and_le_r c.args.bytes 140185576636287)
+
+pub returns : goal.returns
+returns c =
+    let b = c.args.bytes in
+    (rw (six_bytes b c.requires) at (some_six (byte_at b) (byte_lt b)), omega (arith, and_le_r (bit_or (bit_and b 140185576636287 + 140185576636287) b) 141289400074368))
