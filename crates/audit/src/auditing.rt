@@ -1,5 +1,5 @@
 // The audit of a log, line by line.
-ghost use Rattle.std.specs.Prelude.{◌≡◌, ◌≤◌, length};
+ghost use Rattle.std.specs.Prelude.{◌≡◌, ◌≤◌, length, IfOk};
 ghost use Rattle.text.specs.Text.{Said};
 ghost use Rattle.audit.specs.Audit.{line_text, line_totals, totals_of, Few};
 ghost use Rattle.transfers.specs.Room.{transfer_room};
@@ -10,6 +10,7 @@ use logfile::Entry;
 use logfile::reading::{entry, line_from};
 use mesh::Sizes;
 use routes::entries::verdict;
+use std::io::{Result, Write};
 use text::running::print_front;
 use text::tell;
 use transfers::transfer;
@@ -46,9 +47,15 @@ fn audit_line(s: Sizes, cells: &[u8], t: Totals, line: &[u8], out: &mut [u8]) ->
 }
 
 // Prints the text for each line; the totals.
-pub(crate) fn audit_log(s: Sizes, cells: &[u8], log: &[u8], out: &mut [u8]) -> Totals
+pub(crate) fn audit_log<W: Write>(
+    s: Sizes,
+    cells: &[u8],
+    log: &[u8],
+    out: &mut [u8],
+    to: &mut W,
+) -> Result<Totals>
     requires { (length log.now ≤ longest_log) × (transfer_room ≤ length out.old) }
-    ensures { result ≡ totals_of s cells.now log.now }
+    ensures { IfOk result (λ t. t ≡ totals_of s cells.now log.now) }
 {
     let mut t = Totals::none();
     let mut at = 0;
@@ -56,8 +63,8 @@ pub(crate) fn audit_log(s: Sizes, cells: &[u8], log: &[u8], out: &mut [u8]) -> T
         let line = line_from(log, at);
         let done = audit_line(s, cells, t, line, out);
         t = done.totals;
-        print_front(out, done.used);
+        print_front(to, out, done.used)?;
         at += line.len() + 1;
     }
-    t
+    Ok(t)
 }

@@ -1,6 +1,8 @@
 // Reads a map file from standard input, and prints how its nodes tell each other their marks.
 #![tactic(auto)]
 
-fn main() {
-    gossiping::running::run(libc::STDIN_FILENO);
+use std::io;
+
+fn main(rt: HostRuntime) -> io::Result<()> {
+    gossiping::running::run(&mut rt.stdin(), &mut rt.stdout())
 }

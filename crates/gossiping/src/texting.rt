@@ -68,7 +68,7 @@ fn map_text(s: Sizes, cells: &[u8], out: &mut [u8]) -> usize
     requires { (check_map s cells.now ≡ Done) × (gossip_room ≤ length out.old) }
     ensures { Said out.old 0 (map_text (map_of s cells.now)) out.new result × (result ≤ gossip_room) }
 {
-    let mut state = io::large_buffer();
+    let mut state = [0u8; 65536];
     let long = state_length(s);
     let first = first_line(s, count_faulty(cells), out, 0);
     let next = legend(out, first);
@@ -80,7 +80,7 @@ pub(crate) fn gossip(file: &[u8], out: &mut [u8]) -> usize
     requires { gossip_room ≤ length out.old }
     ensures { Said out.old 0 (gossip file.now) out.new result × (result ≤ gossip_room) }
 {
-    let mut cells = io::buffer();
+    let mut cells = [0u8; 4096];
     match read_map(file, &mut cells) {
         MapRead::Read(s) => {
             let n = s.nodes();

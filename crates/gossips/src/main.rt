@@ -2,14 +2,16 @@
 #![tactic(auto)]
 
 use gossiping::running::run;
-use text::running::open_named;
+use std::io;
+use text::running::{arg_count, open_named};
 
-fn main() {
-    for i in 1..os::arg_count() {
-        let fd = open_named(b"", i);
-        if fd >= 0 {
-            run(fd);
-            libc::close(fd);
+fn main(rt: HostRuntime) -> io::Result<()> {
+    let mut out = rt.stdout();
+    let mut err = rt.stderr();
+    for i in 1..arg_count(&rt) {
+        if let Some(mut file) = open_named(&rt, &mut out, &mut err, b"", i)? {
+            run(&mut file, &mut out)?;
         }
     }
+    Ok(())
 }

@@ -3,39 +3,55 @@
 
 use audit::running::run;
 use audit::usage::usage;
-use text::running::{open_named, print_front};
+use std::env::Env;
+use std::fs::Files;
+use std::io::{Read, Result, Write};
+use text::running::{arg_count, open_named, print_front};
 
 // Prints how to call the program.
-fn help() {
-    let mut text = io::buffer();
+fn help<W: Write>(out: &mut W) -> Result<()> {
+    let mut text = [0u8; 4096];
     let n = usage(&mut text);
-    print_front(&text, n);
+    print_front(out, &text, n)
 }
 
-// The audit of the log open at a descriptor, on the map that another argument names.
-fn audit_with(i: usize, log: i32) {
-    let map = open_named(b"map ", i);
-    if map >= 0 {
-        run(map, log);
-        libc::close(map);
+// The audit of an open log, on the map that an argument names.
+fn audit_with<H: Env + Files, L: Read, W: Write, E: Write>(
+    rt: &H,
+    i: usize,
+    log: &mut L,
+    out: &mut W,
+    err: &mut E,
+) -> Result<()> {
+    match open_named(rt, out, err, b"map ", i)? {
+        Some(mut map) => run(&mut map, log, out),
+        None => Ok(()),
     }
 }
 
 // The audit of the map and the log that two arguments name.
-fn audit_pair(i: usize, j: usize) {
-    let log = open_named(b"log ", j);
-    if log >= 0 {
-        audit_with(i, log);
-        libc::close(log);
+fn audit_pair<H: Env + Files, W: Write, E: Write>(
+    rt: &H,
+    i: usize,
+    j: usize,
+    out: &mut W,
+    err: &mut E,
+) -> Result<()> {
+    match open_named(rt, out, err, b"log ", j)? {
+        Some(mut log) => audit_with(rt, i, &mut log, out, err),
+        None => Ok(()),
     }
 }
 
-fn main() {
-    let n = os::arg_count();
+fn main(rt: HostRuntime) -> Result<()> {
+    let mut out = rt.stdout();
+    let mut err = rt.stderr();
+    let n = arg_count(&rt);
     for i in 1..n / 2 + n % 2 {
-        audit_pair(2 * i - 1, 2 * i);
+        audit_pair(&rt, 2 * i - 1, 2 * i, &mut out, &mut err)?;
     }
     if n % 2 == 0 || n == 1 {
-        help();
+        help(&mut out)?;
     }
+    Ok(())
 }

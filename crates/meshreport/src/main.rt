@@ -1,6 +1,8 @@
 // Reads a map file from standard input, and prints the report on it.
 #![tactic(auto)]
 
-fn main() {
-    report::running::run(libc::STDIN_FILENO);
+use std::io;
+
+fn main(rt: HostRuntime) -> io::Result<()> {
+    report::running::run(&mut rt.stdin(), &mut rt.stdout())
 }

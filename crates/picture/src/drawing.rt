@@ -111,7 +111,7 @@ pub fn picture(s: Sizes, cells: &[u8], start: usize, end: usize, out: &mut [u8],
     requires { (check_ends s cells.now start end ≡ Done) × (at + picture_room ≤ length out.old) }
     ensures { Said out.old at (picture (map_of s cells.now) start end) out.new result × (result ≤ at + picture_room) }
 {
-    let mut drawn = io::buffer();
+    let mut drawn = [0u8; 4096];
     draw(s, cells, start, end, &mut drawn);
     let n = s.nodes();
     let u = s.place(start);

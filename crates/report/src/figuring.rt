@@ -35,7 +35,7 @@ pub(crate) fn figures(s: Sizes, cells: &[u8], o: usize) -> Figures
     requires { (check_map s cells.now ≡ Done) × (o ≤ 7) }
     ensures { result ≡ figures_of (map_of s cells.now) o }
 {
-    let mut marked = io::buffer();
+    let mut marked = [0u8; 4096];
     marks(s, cells, o, &mut marked);
     let n = s.nodes();
     let useless = count_marked(&marked[..n], 2);

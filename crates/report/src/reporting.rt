@@ -48,7 +48,7 @@ pub(crate) fn report(file: &[u8], out: &mut [u8]) -> usize
     requires { report_room ≤ length out.old }
     ensures { Said out.old 0 (report file.now) out.new result × (result ≤ report_room) }
 {
-    let mut cells = io::buffer();
+    let mut cells = [0u8; 4096];
     match read_map(file, &mut cells) {
         MapRead::Read(s) => {
             let n = s.nodes();

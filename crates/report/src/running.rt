@@ -1,12 +1,13 @@
 // The little that is not proved: which bytes are read, and that those of the report are printed.
 use crate::reporting::report;
-use text::running::{blank_file, print_front};
+use std::io::{Read, Result, Write};
+use text::running::{blank_file, print_front, read_front};
 
-// Reads a map file from a descriptor, and prints the report on it.
-pub fn run(fd: i32) {
+// Reads a map file, and prints the report on it.
+pub fn run<R: Read, W: Write>(from: &mut R, out: &mut W) -> Result<()> {
     let mut file = blank_file();
-    let n = io::read_full(fd, &mut file);
-    let mut text = io::large_buffer();
+    let n = read_front(from, &mut file)?;
+    let mut text = [0u8; 65536];
     let k = report(&file[..n], &mut text);
-    print_front(&text, k);
+    print_front(out, &text, k)
 }

@@ -4,41 +4,43 @@
 
 use components::entry::compute;
 use format::MapRead;
-use libc::STDIN_FILENO;
 use mapfile::reader::read_map;
 use marks::entry::marks;
 use mesh::entries::place_of;
 use mesh::{Placed, Sizes};
-use text::running::print_front;
+use std::io::{Read, Result, Write};
+use text::running::{print_front, read_front};
 use text::tell;
 use touching::Component;
 
 // An unsafe node.
-fn say_node(s: Sizes, k: usize, mark: u8, component: u16) {
+fn say_node<W: Write>(s: Sizes, k: usize, mark: u8, component: u16, out: &mut W) -> Result<()> {
     if let Placed::Found(p) = place_of(s, k) {
-        let mut line = io::buffer();
+        let mut line = [0u8; 4096];
         let n = tell(
             b"place % % % mark % component %\n",
             &[p.x, p.y, p.z, mark as usize, component as usize],
             &mut line,
             0,
         );
-        print_front(&line, n);
+        print_front(out, &line, n)?;
     }
+    Ok(())
 }
 
 // All unsafe nodes.
-fn say_nodes(s: Sizes, marked: &[u8], table: &[u16]) {
+fn say_nodes<W: Write>(s: Sizes, marked: &[u8], table: &[u16], out: &mut W) -> Result<()> {
     for k in 0..marked.len() {
         if marked[k] != 0 && k < table.len() {
-            say_node(s, k, marked[k], table[k]);
+            say_node(s, k, marked[k], table[k], out)?;
         }
     }
+    Ok(())
 }
 
 // A component.
-fn say_component(i: usize, c: Component) {
-    let mut line = io::buffer();
+fn say_component<W: Write>(i: usize, c: Component, out: &mut W) -> Result<()> {
+    let mut line = [0u8; 4096];
     let n = tell(
         b"component % nodes % from % % % to % % %\n",
         &[
@@ -54,35 +56,42 @@ fn say_component(i: usize, c: Component) {
         &mut line,
         0,
     );
-    print_front(&line, n);
+    print_front(out, &line, n)
 }
 
 // The first components.
-fn say_components(records: [Component; 1024], count: usize) {
+fn say_components<W: Write>(records: [Component; 1024], count: usize, out: &mut W) -> Result<()> {
     for i in 0..1024 {
         if i < count {
-            say_component(i + 1, records[i]);
+            say_component(i + 1, records[i], out)?;
         }
     }
+    Ok(())
 }
 
 // All of it.
-fn say_map(s: Sizes, cells: &[u8]) {
-    let mut marked = io::buffer();
+fn say_map<W: Write>(s: Sizes, cells: &[u8], out: &mut W) -> Result<()> {
+    let mut marked = [0u8; 4096];
     let mut table = [0u16; 4096];
     marks(s, cells, 0, &mut marked);
     let found = compute(s, cells, 0, &mut table, 4096);
-    say_nodes(s, &marked, &table);
+    say_nodes(s, &marked, &table, out)?;
     let records = found.records;
-    say_components(records, found.count);
+    say_components(records, found.count, out)
 }
 
-fn main() {
-    let mut file = io::large_buffer();
-    let n = io::read_full(STDIN_FILENO, &mut file);
-    let mut cells = io::buffer();
+// The sample that is read, and all of it printed.
+fn run<R: Read, W: Write>(from: &mut R, out: &mut W) -> Result<()> {
+    let mut file = [0u8; 65536];
+    let n = read_front(from, &mut file)?;
+    let mut cells = [0u8; 4096];
     if let MapRead::Read(s) = read_map(&file[..n], &mut cells) {
         let n = s.nodes();
-        say_map(s, &cells[..n]);
+        say_map(s, &cells[..n], out)?;
     }
+    Ok(())
+}
+
+fn main(rt: HostRuntime) -> Result<()> {
+    run(&mut rt.stdin(), &mut rt.stdout())
 }

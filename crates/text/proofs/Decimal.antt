@@ -1,15 +1,15 @@
--- The digits that `io::decimal` stores are those of `decimal`. Assumes nothing.
-use mathlib.Core.Path.{◌≡◌, refl, ap, ◌∙◌, subst, subst⁻¹}
+-- A number has at most twenty digits, and its digits stored from the last to the first are those of `decimal`. Assumes nothing.
+use mathlib.Core.Path.{◌≡◌, refl, sym, ap, ◌∙◌, subst}
 use mathlib.Core.Bool.{Bool, true, false, cond}
-use mathlib.Core.List.{List, [], ◌∷◌, ◌++◌}
+use mathlib.Core.List.{List, [], ◌∷◌, ◌++◌, append_assoc, append-nil}
 use Prim.Native.Nat.{ℕ, zero, suc, ◌+◌, ◌-◌, ◌/◌, ◌%◌, ◌^◌, ◌≤◌, ◌<◌}
-use native.Mathlib.Nat.{pow-suc, one-le-pow, pow-le-pow_right, mod-eq_of_lt}
-use native.Mathlib.Numerals.{sub-one}
+use native.Mathlib.Nat.{pow-suc}
+use native.Mathlib.Numerals.{add-one}
 use native.Mathlib.Omega.{arith}
-use borrow.Author.Tests.{lt-ltb, le-ltb, ltb-true, ltb-false}
+use borrow.Author.Tests.{lt-ltb, le-ltb}
 use lib.Dec.{ltb}
-use lib.ListN.{length, length-append}
-use Rattle.io.specs.Digits.{hex_digit_ascii, last_digits, IsDigitCount}
+use lib.ListN.{length, length-append, length-set, set, drop, drop_of_length-le}
+use Rattle.std.proofs.lemmas.List.{drop-set}
 use Rattle.text.specs.Text.{ascii, decimal_within, decimal}
 
 -- no number takes more than twenty digits
@@ -25,48 +25,71 @@ length_within (suc more) n = go (ltb n 10) (decimal_within more (n / 10)) (lengt
 pub length_decimal : (n : ℕ) → length (decimal n) ≤ 20
 length_decimal n = length_within 20 n
 
--- a digit below ten
-digit_is : (d : ℕ) → d < 10 → hex_digit_ascii d ≡ 48 + d
-digit_is d h = rw (lt-ltb d 10 h)
-
--- the fewest digits that hold n, one more than hold its tenth part
-tenth : (k n : ℕ) → IsDigitCount 10 1 n (suc (suc k)) → (10 ≤ n) × IsDigitCount 10 1 (n / 10) (suc k)
-tenth k n (l, h, f) =
-    let p : 1 ≤ 10 ^ k = one-le-pow k 10 (omega arith) in
-    let least : 10 ^ suc k ≤ n = subst (λ (j : ℕ). 10 ^ j ≤ n) (sub-one (suc (suc k))) (f (omega arith)) in
-    let rest : 10 ^ k ≤ n / 10 = omega (arith, pow-suc 10 k) in
-    (omega (arith, pow-suc 10 k), (omega arith, omega (arith, pow-suc 10 (suc k)), λ g. subst⁻¹ (λ (j : ℕ). 10 ^ j ≤ n / 10) (sub-one (suc k)) rest))
-
-within : (k more n : ℕ) → IsDigitCount 10 1 n (suc k) → k < more → last_digits 10 (suc k) n ≡ decimal_within more n
+-- a digit below ten is the first, and one that is not has others before it
+first : (k n : ℕ) → n < 10 → decimal_within (suc k) n ≡ (48 + n) ∷ []
 unfolding decimal_within
-within k zero n f h = absurd (omega arith)
-within zero (suc more) n f h =
-    let small : n < 10 = f.1 in
-    let e : hex_digit_ascii (n % 10) ≡ 48 + n = ap hex_digit_ascii (mod-eq_of_lt small) ∙ digit_is n small in
-    rw (lt-ltb n 10 small) (ap (λ (d : ℕ). d ∷ []) e)
-within (suc k) (suc more) n f h =
-    let (large, g) = tenth k n f in
-    let e : hex_digit_ascii (n % 10) ≡ 48 + n % 10 = digit_is (n % 10) (omega arith) in
-    rw (le-ltb n 10 large)
-    (ap (λ (l : List ℕ). l ++ hex_digit_ascii (n % 10) ∷ []) (within k more (n / 10) g (omega arith))
-    ∙ ap (λ (d : ℕ). decimal_within more (n / 10) ++ d ∷ []) e)
+first k n h = rw (lt-ltb n 10 h) refl
 
--- twenty digits hold every number of 64 bits
-few : (k n : ℕ) → IsDigitCount 10 1 n k → n < 2 ^ 64 → k ≤ 20
-few k n f h = go (ltb 20 k) refl
-  where
-    go : (t : Bool) → ltb 20 k ≡ t → k ≤ 20
-    go true e =
-        let l = ltb-true 20 k e in
-        let ten : 0 < 10 = omega arith in
-        let p : 10 ^ 20 ≤ 10 ^ (k - 1) = pow-le-pow_right ten {i = 20} {j = k - 1} (omega arith) in
-        let q : 10 ^ (k - 1) ≤ n = f.2 (omega arith) in
-        absurd (omega arith)
-    go false e = ltb-false 20 k e
+later : (k n : ℕ) → 10 ≤ n → decimal_within (suc k) n ≡ decimal_within k (n / 10) ++ (48 + n % 10) ∷ []
+unfolding decimal_within
+later k n h = rw (le-ltb n 10 h) refl
 
-pub decimal_is : (k n : ℕ) → IsDigitCount 10 1 n k → n < 2 ^ 64 → last_digits 10 k n ≡ decimal n
-decimal_is zero n f h = absurd (omega arith)
-decimal_is (suc k) n f h = within k 20 n f (few (suc k) n f h)
+-- the digits behind place i are stored, and `rest` is the number that those at i and before it say
+pub record Storing (n i rest : ℕ) (digits : List ℕ) : Type 0 where
+  pub place : i ≤ 19
+  pub room : length digits ≡ 20
+  pub small : rest < 10 ^ suc i
+  pub whole : decimal n ≡ decimal_within (suc i) rest ++ drop (suc i) digits
+
+pub storing_none : (n : ℕ) (digits : List ℕ) → length digits ≡ 20 → n < 2 ^ 64 → Storing n 19 n digits
+storing_none n digits room fits =
+    let e : drop 20 digits ≡ [] = drop_of_length-le digits {i = 20} (omega arith) in
+    record {
+      place = omega arith;
+      room = room;
+      small = omega arith;
+      whole = sym (append-nil (decimal n)) ∙ ap (λ (l : List ℕ). decimal n ++ l) (sym e);
+    }
+
+pub storing_before : {n i rest : ℕ} {digits : List ℕ} → Storing n i rest digits → 10 ≤ rest → 1 ≤ i
+storing_before {i = zero} s h = omega (arith, s.small)
+storing_before {i = suc i} s h = omega arith
+
+-- one digit more, at place `suc i`
+storing_next : {n i rest : ℕ} {digits : List ℕ} → Storing n (suc i) rest digits → 10 ≤ rest
+    → Storing n i (rest / 10) (set digits (suc i) (48 + rest % 10))
+storing_next {n} {i} {rest} {digits} s h =
+    let d = 48 + rest % 10 in
+    let next = drop (suc (suc i)) digits in
+    let in_room : suc i < length digits = omega (arith, s.place, s.room) in
+    let stored : drop (suc i) (set digits (suc i) d) ≡ d ∷ next =
+    drop-set digits (suc i) d in_room ∙ ap (λ (k : ℕ). d ∷ drop k digits) (add-one (suc i)) in
+    let e : decimal n ≡ decimal_within (suc i) (rest / 10) ++ drop (suc i) (set digits (suc i) d) =
+    s.whole
+    ∙ ap (λ (l : List ℕ). l ++ next) (later (suc i) rest h)
+    ∙ append_assoc (decimal_within (suc i) (rest / 10)) (d ∷ []) next
+    ∙ ap (λ (l : List ℕ). decimal_within (suc i) (rest / 10) ++ l) (sym stored) in
+    record {
+      place = omega (arith, s.place);
+      room = length-set digits (suc i) d ∙ s.room;
+      small = omega (arith, s.small, pow-suc 10 (suc i));
+      whole = e;
+    }
+
+pub storing_more : {n i rest : ℕ} {digits : List ℕ} → Storing n i rest digits → 10 ≤ rest
+    → Storing n (i - 1) (rest / 10) (set digits i (48 + rest % 10))
+storing_more {i = zero} s h = absurd (omega (arith, s.small))
+storing_more {n} {i = suc i} {rest} {digits} s h =
+    let e : i ≡ suc i - 1 = omega arith in
+    subst (λ (k : ℕ). Storing n k (rest / 10) (set digits (suc i) (48 + rest % 10))) e (storing_next s h)
+
+pub storing_all : {n i rest : ℕ} {digits : List ℕ} → Storing n i rest digits → rest < 10 → drop i (set digits i (48 + rest)) ≡ decimal n
+storing_all {n} {i} {rest} {digits} s h =
+    let in_room : i < length digits = omega (arith, s.place, s.room) in
+    drop-set digits i (48 + rest) in_room
+    ∙ ap (λ (k : ℕ). (48 + rest) ∷ drop k digits) (add-one i)
+    ∙ ap (λ (l : List ℕ). l ++ drop (suc i) digits) (sym (first i rest h))
+    ∙ sym s.whole
 
 -- the definition on some numbers
 numbers : decimal 0 ++ decimal 7 ++ decimal 10 ++ decimal 4096 ≡ ascii "07104096"

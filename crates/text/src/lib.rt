@@ -23,8 +23,15 @@ fn say_number(n: usize, out: &mut [u8], at: usize) -> usize
     ensures { Said out.old at (decimal n) out.new result }
 {
     let mut digits = [0u8; 20];
-    let k = io::decimal(n as u64, &mut digits);
-    say(&digits[..k], out, at)
+    let mut i = 19;
+    let mut rest = n;
+    while rest >= 10 {
+        digits[i] = b'0' + (rest % 10) as u8;
+        rest /= 10;
+        i -= 1;
+    }
+    digits[i] = b'0' + rest as u8;
+    say(&digits[i..], out, at)
 }
 
 // Stores the line that names a file.

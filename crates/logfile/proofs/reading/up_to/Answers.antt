@@ -1,0 +1,14 @@
+-- `logfile::reading::up_to` meets its contract. Assumes nothing.
+use mathlib.Core.Path.{sym, ap}
+use Prim.Native.Nat.{ℕ}
+use lib.ListN.{take}
+use lib.Seq.{length-take-le}
+use Rattle.logfile.proofs.reading.up_to.Goals as goal
+
+pub slice_bounds-result-end : goal.slice_bounds-result-end
+slice_bounds-result-end c =
+    let n = c in
+    sym (length-take-le n.before-n.result n.args.text.now n.before-n.ensures.1)
+
+pub returns : goal.returns
+returns c = ap (λ (k : ℕ). take k c.args.text.now) c.before.before-n.ensures.0
