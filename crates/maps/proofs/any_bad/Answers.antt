@@ -1,8 +1,7 @@
 -- `maps::any_bad` meets its contract: one cell more is looked at each turn. Assumes nothing.
 use mathlib.Core.Path.{◌≡◌, refl, ap, ◌∙◌}
-use Prim.Native.Nat.{ℕ, ◌-◌, ◌≤◌}
+use Prim.Native.Nat.{ℕ}
 use native.Mathlib.Omega.{arith}
-use borrow.Author.Rules.{rules}
 use lib.ListN.{length, get_or}
 use Rattle.mesh.specs.Tools.{any}
 use Rattle.mesh.specs.Cells.{bad_cell}

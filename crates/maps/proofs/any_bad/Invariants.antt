@@ -1,13 +1,9 @@
 -- `maps::any_bad` meets its contract: one cell more is looked at each turn. Assumes nothing.
-use mathlib.Core.Path.{◌≡◌, refl, ap, ◌∙◌}
-use Prim.Native.Nat.{ℕ, ◌-◌, ◌≤◌}
-use native.Mathlib.Omega.{arith}
-use borrow.Author.Rules.{rules}
-use lib.ListN.{length, get_or}
+use mathlib.Core.Path.{◌≡◌}
+use Prim.Native.Nat.{◌-◌, ◌≤◌}
+use lib.ListN.{get_or}
 use Rattle.mesh.specs.Tools.{any}
 use Rattle.mesh.specs.Cells.{bad_cell}
-use Rattle.mesh.proofs.Tests.{any_more}
-use Rattle.mesh.proofs.Answers.{any_first}
 use Rattle.maps.proofs.any_bad.Given as goal
 
 abbrev pub invariant-loop-k : goal.invariant-loop-k

@@ -1,6 +1,5 @@
 -- `maps::faulty_bit` meets its contract: each arm gives the bit of its test. Assumes nothing.
 use mathlib.Core.Path.{◌∙◌, sym}
-use borrow.Author.Rules.{rules}
 use Rattle.maps.proofs.faulty_bit.Goals as goal
 
 pub returns-then-faulty_cell : goal.returns-then-faulty_cell

@@ -2,14 +2,13 @@
 -- Assumes nothing.
 use mathlib.Core.Path.{◌≡◌, sym, ◌∙◌, ap}
 use mathlib.Core.Bool.{false}
-use Prim.Native.Nat.{ℕ, ◌+◌, ◌-◌, ◌*◌, ◌≤◌, ◌<◌}
+use Prim.Native.Nat.{ℕ, ◌+◌, ◌*◌, ◌<◌}
 use native.Mathlib.Nat.{zero-add, mul-zero}
 use native.Mathlib.Omega.{arith}
-use borrow.Author.Rules.{rules}
 use borrow.Author.Count.{below_none, below_more}
 use lib.ListN.{length, get_or}
 use Rattle.mesh.specs.Cells.{bad_cell}
-use Rattle.mesh.proofs.Answers.{NoneBelow, first_is}
+use Rattle.mesh.proofs.Answers.{first_is}
 use Rattle.mesh.proofs.Numbers.{digit_lt, row_end, layer_end}
 use Rattle.maps.proofs.first_bad.Goals as goal
 use Rattle.maps.proofs.first_bad.Goals.{In-loop-x}

@@ -1,16 +1,9 @@
 -- `maps::first_bad` meets its contract: k is the number of the node that the three loops are at, and no cell below k is bad.
 -- Assumes nothing.
-use mathlib.Core.Path.{◌≡◌, sym, ◌∙◌, ap}
-use mathlib.Core.Bool.{false}
-use Prim.Native.Nat.{ℕ, ◌+◌, ◌-◌, ◌*◌, ◌≤◌, ◌<◌}
-use native.Mathlib.Nat.{zero-add, mul-zero}
-use native.Mathlib.Omega.{arith}
-use borrow.Author.Rules.{rules}
-use borrow.Author.Count.{below_none, below_more}
-use lib.ListN.{length, get_or}
+use mathlib.Core.Path.{◌≡◌}
+use Prim.Native.Nat.{◌+◌, ◌-◌, ◌*◌, ◌≤◌}
 use Rattle.mesh.specs.Cells.{bad_cell}
-use Rattle.mesh.proofs.Answers.{NoneBelow, first_is}
-use Rattle.mesh.proofs.Numbers.{digit_lt, row_end, layer_end}
+use Rattle.mesh.proofs.Answers.{NoneBelow}
 use Rattle.maps.proofs.first_bad.Given as goal
 
 abbrev pub invariant-loop-x : goal.invariant-loop-x

@@ -1,7 +1,6 @@
 -- `maps::may_end` meets its contract. Assumes nothing.
 use mathlib.Core.Path.{ap}
 use mathlib.Core.Bool.{not}
-use borrow.Author.Rules.{rules}
 use Rattle.mesh.specs.Cells.{may_end}
 use Rattle.maps.proofs.may_end.Goals as goal
 

@@ -1,7 +1,6 @@
 -- `maps::may_pass` meets its contract. Assumes nothing.
 use mathlib.Core.Path.{ap}
 use mathlib.Core.Bool.{not}
-use borrow.Author.Rules.{rules}
 use Rattle.mesh.specs.Cells.{may_pass}
 use Rattle.maps.proofs.may_pass.Goals as goal
 

@@ -1,6 +1,5 @@
 -- `rows::full` meets its contract. Assumes nothing.
 use native.Mathlib.Omega.{arith}
-use borrow.Author.Rules.{rules}
 use lib.Pow.{pow_pos, pow_mono}
 use Rattle.rows.proofs.Packs.{power}
 use Rattle.rows.proofs.full.Goals as goal

@@ -1,9 +1,8 @@
 -- `mesh::Place::step` meets its contract: the direction's own axis moves, and the other two stay. Assumes nothing.
 use mathlib.Core.Path.{◌≡◌, ◌∙◌}
 use mathlib.Core.Bool.{Bool, true, false}
-use Prim.Native.Nat.{ℕ, ◌<◌}
+use Prim.Native.Nat.{ℕ}
 use native.Mathlib.Omega.{arith}
-use borrow.Author.Rules.{rules}
 use Rattle.mesh.specs.Mesh.{X, Y, Z, Inside}
 use Rattle.mesh.specs.Steps.{step_of, moved, together, next, along}
 use Rattle.mesh.specs.declared.Sizes.{Sizes}

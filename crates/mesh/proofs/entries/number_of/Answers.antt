@@ -1,8 +1,6 @@
 -- `mesh::entries::number_of` meets its contract: each check is run where those before it are granted. Assumes nothing.
 use mathlib.Core.Path.{◌≡◌, ◌∙◌, sym, ap}
 use mathlib.Core.Bool.{true}
-use borrow.Author.Rules.{rules}
-use borrow.Author.Tests.{not-true, not-false}
 use Rattle.mesh.specs.Mesh.{in_range, inside}
 use Rattle.mesh.specs.Answers.{number_answer}
 use Rattle.mesh.specs.declared.Numbered.TheVariants.{Number}

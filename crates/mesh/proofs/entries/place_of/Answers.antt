@@ -1,8 +1,7 @@
 -- `mesh::entries::place_of` meets its contract: each check is run where those before it are granted. Assumes nothing.
 use mathlib.Core.Path.{◌≡◌, ◌∙◌, sym, ap}
 use mathlib.Core.Bool.{true}
-use borrow.Author.Rules.{rules}
-use borrow.Author.Tests.{not-true, not-false, lt-ltb, le-ltb}
+use borrow.Author.Tests.{lt-ltb, le-ltb}
 use Rattle.mesh.specs.Mesh.{in_range, nodes}
 use Rattle.mesh.specs.Answers.{place_answer}
 use Rattle.mesh.specs.declared.Placed.TheVariants.{Found}

@@ -1,5 +1,4 @@
 -- `rows::Between::row` meets its contract. Assumes nothing.
-use borrow.Author.Rules.{rules}
 use Rattle.rows.proofs.Between.row.Goals as goal
 
 pub returns : goal.returns

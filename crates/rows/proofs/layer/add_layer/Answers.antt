@@ -1,8 +1,7 @@
 -- `rows::layer::add_layer` meets its contract: row after row. Assumes nothing.
 use mathlib.Core.Path.{subst}
-use Prim.Native.Nat.{◌-◌, ◌≤◌}
+use Prim.Native.Nat.{◌≤◌}
 use native.Mathlib.Omega.{arith}
-use borrow.Author.Rules.{rules}
 use Rattle.mesh.specs.Mesh.{Inside}
 use Rattle.rows.specs.Box.{largest, far, AddedRows}
 use Rattle.rows.proofs.Box.{far_in}

@@ -1,12 +1,6 @@
 -- `rows::layer::add_layer` meets its contract: row after row. Assumes nothing.
-use mathlib.Core.Path.{subst}
 use Prim.Native.Nat.{◌-◌, ◌≤◌}
-use native.Mathlib.Omega.{arith}
-use borrow.Author.Rules.{rules}
-use Rattle.mesh.specs.Mesh.{Inside}
-use Rattle.rows.specs.Box.{largest, far, AddedRows}
-use Rattle.rows.proofs.Box.{far_in}
-use Rattle.rows.proofs.Adding.{added_none, turn_span, turn_room, added_more}
+use Rattle.rows.specs.Box.{AddedRows}
 use Rattle.rows.proofs.layer.add_layer.Given as goal
 
 abbrev pub invariant-loop-b : goal.invariant-loop-b

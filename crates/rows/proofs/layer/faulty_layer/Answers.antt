@@ -1,6 +1,6 @@
 -- `rows::layer::faulty_layer` meets its contract: row after row. Assumes nothing.
 use mathlib.Core.Path.{◌≡◌, refl, subst}
-use Prim.Native.Nat.{◌+◌, ◌-◌, ◌≤◌, ◌<◌}
+use Prim.Native.Nat.{◌+◌, ◌<◌}
 use native.Mathlib.Omega.{arith}
 use lib.ListN.{length}
 use Rattle.mesh.specs.Mesh.{Inside}

@@ -1,14 +1,8 @@
 -- `rows::layer::faulty_layer` meets its contract: row after row. Assumes nothing.
-use mathlib.Core.Path.{◌≡◌, refl, subst}
-use Prim.Native.Nat.{◌+◌, ◌-◌, ◌≤◌, ◌<◌}
-use native.Mathlib.Omega.{arith}
-use lib.ListN.{length}
-use Rattle.mesh.specs.Mesh.{Inside}
+use Prim.Native.Nat.{◌-◌, ◌≤◌}
 use Rattle.mesh.specs.Cells.{map_of}
 use Rattle.mesh.specs.Fill.{Filled}
-use Rattle.mesh.proofs.Fill.{fill_none, fill_more}
-use Rattle.rows.specs.Box.{largest, far, faulty_row}
-use Rattle.rows.proofs.Box.{far_in}
+use Rattle.rows.specs.Box.{faulty_row}
 use Rattle.rows.proofs.layer.faulty_layer.Given as goal
 
 abbrev pub invariant-loop-b : goal.invariant-loop-b

@@ -2,7 +2,6 @@
 use mathlib.Core.Path.{ap, ◌∙◌}
 use Prim.Native.Nat.{◌+◌}
 use native.Mathlib.Omega.{arith}
-use borrow.Author.Rules.{rules}
 use Rattle.mesh.specs.Mesh.{Inside}
 use Rattle.mesh.specs.Cells.{map_of}
 use Rattle.rows.specs.Row.{packed, says}

@@ -1,10 +1,7 @@
 -- `rows::pack::few` meets its contract: each turn puts one node more in front. Assumes nothing.
-use mathlib.Core.Path.{◌≡◌, sym}
-use Prim.Native.Nat.{◌+◌, ◌-◌, ◌≤◌, ◌<◌}
-use native.Mathlib.Omega.{arith}
-use borrow.Author.Rules.{rules}
+use mathlib.Core.Path.{◌≡◌}
+use Prim.Native.Nat.{◌+◌, ◌-◌, ◌≤◌}
 use Rattle.rows.specs.Row.{packed, says}
-use Rattle.rows.proofs.Packs.{bit_lt, few_none, few_lt, few_more, few_all}
 use Rattle.rows.proofs.pack.few.Given as goal
 
 abbrev pub invariant-loop-k : goal.invariant-loop-k

@@ -1,7 +1,6 @@
 -- `rows::pack::one` meets its contract. Assumes nothing.
 use Prim.Native.Nat.{◌+◌, ◌-◌}
 use native.Mathlib.Omega.{arith}
-use borrow.Author.Rules.{rules}
 use lib.ListN.{get_or}
 use Rattle.rows.proofs.Bits.{read_at}
 use Rattle.rows.proofs.pack.one.Goals as goal

@@ -1,7 +1,6 @@
 -- `rows::pack::pairs` meets its contract. Assumes nothing.
 use Prim.Native.Nat.{◌+◌, ◌/◌, ◌^◌}
 use native.Mathlib.Omega.{arith}
-use borrow.Author.Rules.{rules}
 use lib.Bits.{bit_and, and_le_r}
 use Rattle.rows.proofs.Sixteen.{pairs_of}
 use Rattle.rows.proofs.pack.pairs.Goals as goal

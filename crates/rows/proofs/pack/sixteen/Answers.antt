@@ -1,6 +1,5 @@
 -- `rows::pack::sixteen` meets its contract. Assumes nothing.
 use Prim.Native.Nat.{◌+◌, ◌*◌}
-use borrow.Author.Rules.{rules}
 use Rattle.rows.specs.Row.{bit_at}
 use Rattle.rows.proofs.Sixteen.{sixteen_of}
 use Rattle.rows.proofs.pack.sixteen.Goals as goal

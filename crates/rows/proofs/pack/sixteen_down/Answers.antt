@@ -3,7 +3,6 @@ use mathlib.Core.Path.{ap, ◌∙◌}
 use mathlib.Core.Bool.{true}
 use Prim.Native.Nat.{◌+◌, ◌*◌}
 use native.Mathlib.Omega.{arith}
-use borrow.Author.Rules.{rules}
 use lib.ListN.{get_or}
 use Rattle.rows.specs.Row.{bit_at, says}
 use Rattle.rows.proofs.Packs.{packed_twice}

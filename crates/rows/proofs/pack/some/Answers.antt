@@ -2,7 +2,6 @@
 use Prim.Native.Nat.{◌/◌, ◌^◌}
 use native.Mathlib.Nat.{mod-le}
 use native.Mathlib.Omega.{arith}
-use borrow.Author.Rules.{rules}
 use lib.Pow.{pow_pos, shr_le}
 use Rattle.rows.proofs.Packs.{power}
 use Rattle.rows.proofs.pack.some.Goals as goal

@@ -1,6 +1,5 @@
 -- `rows::pack::word` meets its contract. Assumes nothing.
 use native.Mathlib.Omega.{arith}
-use borrow.Author.Rules.{rules}
 use Rattle.rows.proofs.Sixteen.{bytes_more, bytes_one}
 use Rattle.rows.proofs.pack.word.Goals as goal
 

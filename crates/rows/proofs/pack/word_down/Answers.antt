@@ -1,7 +1,6 @@
 -- `rows::pack::word_down` meets its contract. Assumes nothing.
 use Prim.Native.Nat.{◌-◌}
 use native.Mathlib.Nat.{sub-zero}
-use borrow.Author.Rules.{rules}
 use lib.ListN.{get_or}
 use Rattle.rows.proofs.Sixteen.{eight_are}
 use Rattle.rows.proofs.pack.word_down.Goals as goal

@@ -1,7 +1,6 @@
 -- `rows::unpack::add_row` meets its contract. Assumes nothing.
 use Prim.Native.Nat.{◌+◌, ◌-◌, ◌≤◌}
 use native.Mathlib.Omega.{arith}
-use borrow.Author.Rules.{rules}
 use lib.ListN.{length}
 use Rattle.rows.proofs.Unpacks.{eight_in, eight_room, both}
 use Rattle.rows.proofs.unpack.add_row.Goals as goal

@@ -1,7 +1,6 @@
 -- `rows::unpack::eight` meets its contract. Assumes nothing.
 use Prim.Native.Nat.{◌+◌, ◌*◌, ◌<◌, ◌^◌}
 use native.Mathlib.Omega.{arith}
-use borrow.Author.Rules.{rules}
 use Rattle.rows.proofs.Unpacks.{eight_sum, eight_lt}
 use Rattle.rows.proofs.unpack.eight.Goals as goal
 use Rattle.rows.proofs.unpack.eight.Goals.{After-spread}

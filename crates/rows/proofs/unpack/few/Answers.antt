@@ -1,8 +1,7 @@
 -- `rows::unpack::few` meets its contract. Assumes nothing.
-use mathlib.Core.Path.{◌≡◌, subst}
-use Prim.Native.Nat.{◌+◌, ◌-◌, ◌*◌, ◌/◌, ◌%◌, ◌^◌, ◌≤◌}
+use mathlib.Core.Path.{subst}
+use Prim.Native.Nat.{◌+◌, ◌*◌, ◌%◌, ◌≤◌}
 use native.Mathlib.Omega.{arith}
-use borrow.Author.Rules.{rules}
 use lib.ListN.{get_or}
 use Rattle.mesh.proofs.Fill.{fill_none}
 use Rattle.rows.specs.Bytes.{Added}

@@ -1,7 +1,6 @@
 -- `rows::unpack::spread` meets its contract. Assumes nothing.
 use Prim.Native.Nat.{◌*◌}
 use native.Mathlib.Omega.{arith}
-use borrow.Author.Rules.{rules}
 use lib.Bits.{and_le_r}
 use Rattle.rows.proofs.Spread.{spread_up, spread_down}
 use Rattle.rows.proofs.unpack.spread.Goals as goal

@@ -1,11 +1,8 @@
 -- `rows::unpack::word` meets its contract: each turn puts one byte more in front. Assumes nothing.
-use mathlib.Core.Path.{◌≡◌, refl}
-use Prim.Native.Nat.{◌+◌, ◌-◌, ◌≤◌, ◌<◌, ◌^◌}
-use native.Mathlib.Omega.{arith}
-use borrow.Author.Rules.{rules}
+use mathlib.Core.Path.{◌≡◌}
+use Prim.Native.Nat.{◌+◌, ◌-◌, ◌≤◌}
 use lib.ListN.{get_or}
 use Rattle.rows.specs.Bytes.{joined}
-use Rattle.rows.proofs.Words.{word_more, word_all, word_lt}
 use Rattle.rows.proofs.unpack.word.Given as goal
 
 abbrev pub invariant-loop-k : goal.invariant-loop-k
