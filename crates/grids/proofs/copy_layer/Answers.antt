@@ -1,11 +1,8 @@
 -- `grids::copy_layer` meets its contract. The loop's invariant: the rows below `y` are copied. Assumes nothing.
 use mathlib.Core.Path.{◌≡◌, refl, ap, ◌∙◌, subst}
-use mathlib.Core.List.{List}
-use Prim.Native.Nat.{ℕ, ◌+◌, ◌-◌, ◌*◌, ◌≤◌}
+use Prim.Native.Nat.{ℕ, ◌+◌, ◌*◌}
 use native.Mathlib.Omega.{arith}
-use borrow.Author.Rules.{rules}
 use native.Mathlib.Nat.{zero-add}
-use lib.ListN.{length}
 use Rattle.mesh.proofs.Numbers.{layer_end}
 use Rattle.grids.specs.Layout.{Copied}
 use Rattle.grids.proofs.Layouts.{row_copied}

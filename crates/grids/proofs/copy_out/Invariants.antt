@@ -1,11 +1,8 @@
 -- `grids::copy_out` meets its contract. The loop's invariant: the layers below `z` are copied. Assumes nothing.
-use mathlib.Core.Path.{◌≡◌, refl, ◌∙◌, subst}
-use Prim.Native.Nat.{ℕ, ◌-◌, ◌*◌, ◌≤◌}
-use native.Mathlib.Omega.{arith}
-use native.Mathlib.Nat.{mul-zero}
+use mathlib.Core.Path.{◌≡◌}
+use Prim.Native.Nat.{◌-◌, ◌*◌, ◌≤◌}
 use lib.ListN.{length}
 use Rattle.grids.specs.Layout.{Copied}
-use Rattle.grids.proofs.Layouts.{copied_none, all_copied}
 use Rattle.grids.proofs.copy_out.Given as goal
 
 abbrev pub invariant-loop-z : goal.invariant-loop-z

@@ -1,6 +1,6 @@
 -- `grids::copy_row` meets its contract. The loop's invariant: the first `x` numbers are copied. Assumes nothing.
 use mathlib.Core.Path.{refl, subst}
-use Prim.Native.Nat.{◌+◌, ◌-◌, ◌≤◌}
+use Prim.Native.Nat.{◌+◌}
 use native.Mathlib.Omega.{arith}
 use lib.ListN.{get_or}
 use Rattle.mesh.specs.Fill.{Filled}

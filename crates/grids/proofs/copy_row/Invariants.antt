@@ -1,10 +1,7 @@
 -- `grids::copy_row` meets its contract. The loop's invariant: the first `x` numbers are copied. Assumes nothing.
-use mathlib.Core.Path.{refl, subst}
 use Prim.Native.Nat.{◌+◌, ◌-◌, ◌≤◌}
-use native.Mathlib.Omega.{arith}
 use lib.ListN.{get_or}
 use Rattle.mesh.specs.Fill.{Filled}
-use Rattle.mesh.proofs.Fill.{fill_none, fill_more}
 use Rattle.grids.proofs.copy_row.Given as goal
 
 abbrev pub invariant-loop-x : goal.invariant-loop-x

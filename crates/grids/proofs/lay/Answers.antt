@@ -1,6 +1,6 @@
 -- `grids::lay` meets its contract. The loop's invariant: the layers below `z` are laid. Assumes nothing.
 use mathlib.Core.Path.{subst}
-use Prim.Native.Nat.{ℕ, ◌+◌, ◌-◌, ◌*◌, ◌≤◌}
+use Prim.Native.Nat.{ℕ, ◌+◌, ◌*◌}
 use native.Mathlib.Omega.{arith}
 use Rattle.grids.specs.Layout.{Laid}
 use Rattle.grids.proofs.Layouts.{laid_none, all_laid}

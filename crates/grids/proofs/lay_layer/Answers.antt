@@ -1,8 +1,7 @@
 -- `grids::lay_layer` meets its contract. The loop's invariant: the rows below `y` are laid. Assumes nothing.
 use mathlib.Core.Path.{subst}
-use Prim.Native.Nat.{ℕ, ◌+◌, ◌-◌, ◌*◌, ◌≤◌}
+use Prim.Native.Nat.{ℕ, ◌+◌, ◌*◌}
 use native.Mathlib.Omega.{arith}
-use borrow.Author.Rules.{rules}
 use Rattle.grids.specs.Layout.{Laid}
 use Rattle.grids.proofs.Layouts.{row_laid, layer_laid}
 use Rattle.grids.proofs.lay_layer.Goals as goal

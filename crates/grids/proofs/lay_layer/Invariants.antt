@@ -1,10 +1,6 @@
 -- `grids::lay_layer` meets its contract. The loop's invariant: the rows below `y` are laid. Assumes nothing.
-use mathlib.Core.Path.{subst}
-use Prim.Native.Nat.{ℕ, ◌+◌, ◌-◌, ◌*◌, ◌≤◌}
-use native.Mathlib.Omega.{arith}
-use borrow.Author.Rules.{rules}
+use Prim.Native.Nat.{◌+◌, ◌-◌, ◌*◌, ◌≤◌}
 use Rattle.grids.specs.Layout.{Laid}
-use Rattle.grids.proofs.Layouts.{row_laid, layer_laid}
 use Rattle.grids.proofs.lay_layer.Given as goal
 
 abbrev pub invariant-loop-y : goal.invariant-loop-y

@@ -1,10 +1,7 @@
 -- `grids::lay_row` meets its contract. The loop's invariant: the first `x` marks are laid. Assumes nothing.
-use mathlib.Core.Path.{refl, subst}
 use Prim.Native.Nat.{◌+◌, ◌-◌, ◌≤◌}
-use native.Mathlib.Omega.{arith}
 use lib.ListN.{get_or}
 use Rattle.mesh.specs.Fill.{Filled}
-use Rattle.mesh.proofs.Fill.{fill_none, fill_more}
 use Rattle.grids.specs.Grid.{shade}
 use Rattle.grids.proofs.lay_row.Given as goal
 

@@ -1,6 +1,5 @@
 -- `grids::row_of` meets its contract. Assumes nothing.
 use native.Mathlib.Omega.{arith}
-use borrow.Author.Rules.{rules}
 use Rattle.mesh.proofs.Numbers.{room, digit_lt}
 use Rattle.grids.proofs.row_of.Goals as goal
 

@@ -1,6 +1,5 @@
 -- `marks::blocked::ahead_z` meets its contract. Assumes nothing.
 use mathlib.Core.Path.{◌∙◌}
-use borrow.Author.Rules.{rules}
 use borrow.Author.Tests.{le-leb, lt-leb}
 use Rattle.marks.proofs.blocked.ahead_z.Goals as goal
 

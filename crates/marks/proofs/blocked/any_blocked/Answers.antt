@@ -2,7 +2,6 @@
 use mathlib.Core.Path.{◌≡◌}
 use Prim.Native.Nat.{ℕ, ◌/◌, ◌%◌}
 use native.Mathlib.Omega.{arith}
-use borrow.Author.Rules.{rules}
 use Rattle.mesh.specs.Tools.{bit, one}
 use Rattle.mesh.specs.Cells.{map_of}
 use Rattle.mesh.proofs.Bits.{bit_of}

@@ -1,5 +1,4 @@
 -- `marks::blocked::inner` meets its contract. Assumes nothing.
-use borrow.Author.Rules.{rules}
 use Rattle.marks.proofs.Stretches.{highest_in}
 use Rattle.marks.proofs.blocked.inner.Goals as goal
 

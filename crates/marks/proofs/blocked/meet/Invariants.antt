@@ -1,11 +1,7 @@
 -- `marks::blocked::meet` meets its contract: what is joined is 0 only while no turn has found three faulty cells. Assumes nothing.
-use mathlib.Core.Path.{◌≡◌, subst}
-use Prim.Native.Nat.{ℕ, ◌-◌, ◌≤◌}
-use native.Mathlib.Omega.{arith}
-use borrow.Author.Rules.{rules}
-use borrow.Author.Tests.{eqb-true, not-false}
+use mathlib.Core.Path.{◌≡◌}
+use Prim.Native.Nat.{◌-◌, ◌≤◌}
 use Rattle.marks.specs.Stretches.{Apart}
-use Rattle.marks.proofs.Stretches.{apart_more}
 use Rattle.marks.proofs.blocked.meet.Given as goal
 
 abbrev pub invariant-loop-i : goal.invariant-loop-i

@@ -1,8 +1,7 @@
 -- `marks::bytes::finish` meets its contract: turn i reads byte i, which no turn before it wrote. Assumes nothing.
 use mathlib.Core.Path.{◌≡◌, refl, ap, ◌∙◌, subst}
-use Prim.Native.Nat.{ℕ, ◌-◌, ◌≤◌}
+use Prim.Native.Nat.{ℕ}
 use native.Mathlib.Omega.{arith}
-use borrow.Author.Rules.{rules}
 use lib.ListN.{get_or}
 use Rattle.mesh.proofs.Fill.{fill_none, fill_more}
 use Rattle.marks.specs.Sweep.{mark_of, Finished}

@@ -1,6 +1,5 @@
 -- `marks::bytes::mark_byte` meets its contract. Assumes nothing.
 use mathlib.Core.Path.{◌∙◌, sym}
-use borrow.Author.Rules.{rules}
 use Rattle.marks.proofs.bytes.mark_byte.Goals as goal
 
 pub returns-then-faulty_cell : goal.returns-then-faulty_cell

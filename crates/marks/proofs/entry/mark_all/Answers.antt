@@ -1,7 +1,6 @@
 -- `marks::entry::mark_all` meets its contract: a sweep for each mark over bytes that are 0, then the faulty nodes. Assumes nothing.
 use mathlib.Core.Path.{subst}
 use native.Mathlib.Omega.{arith}
-use borrow.Author.Rules.{rules}
 use Rattle.mesh.specs.Mesh.{nodes}
 use Rattle.mesh.specs.Fill.{Filled}
 use Rattle.marks.specs.Sweep.{Finished}

@@ -1,6 +1,5 @@
 -- `marks::entry::marks` meets its contract: what is lent changes only where no refusal stands. Assumes nothing.
 use mathlib.Core.Path.{◌≡◌, ◌∙◌, sym}
-use borrow.Author.Rules.{rules}
 use lib.ListN.{length}
 use Rattle.mesh.specs.declared.Answer.TheVariants.{Done}
 use Rattle.mesh.proofs.Answers.{kept}

@@ -1,7 +1,6 @@
 -- `marks::entry::marks_answer` meets its contract: each check is run where those before it are granted. Assumes nothing.
 use mathlib.Core.Path.{◌≡◌, ◌∙◌, sym}
 use native.Mathlib.Omega.{arith}
-use borrow.Author.Rules.{rules}
 use borrow.Author.Tests.{le-leb, lt-leb}
 use Rattle.mesh.specs.Answers.{check_map}
 use Rattle.mesh.specs.declared.Answer.TheVariants.{Done}

@@ -1,5 +1,4 @@
 -- `marks::sweep::axis` meets its contract. Assumes nothing.
-use borrow.Author.Rules.{rules}
 use Rattle.marks.proofs.sweep.axis.Goals as goal
 
 pub returns-then-down : goal.returns-then-down

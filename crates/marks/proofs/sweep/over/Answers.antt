@@ -1,20 +1,16 @@
 -- `marks::sweep::over` meets its contract: row after row. Assumes nothing.
 use mathlib.Core.Path.{◌≡◌, refl, ap, ◌∙◌, subst}
-use mathlib.Core.List.{List}
-use Prim.Native.Nat.{ℕ, ◌+◌, ◌-◌, ◌<◌, ◌≤◌}
+use Prim.Native.Nat.{ℕ, ◌+◌, ◌<◌, ◌≤◌}
 use native.Mathlib.Omega.{arith}
-use borrow.Author.Rules.{rules}
 use lib.ListN.{length, get_or, length-set}
 use lib.Bits.{bit_and, bit_or}
 use Rattle.mesh.specs.Mesh.{Inside}
-use Rattle.mesh.specs.Cells.{Map, map_of}
+use Rattle.mesh.specs.Cells.{map_of}
 use Rattle.rows.specs.Row.{bit_at, swept}
 use Rattle.rows.specs.Box.{largest, far, faulty_row}
 use Rattle.rows.proofs.Box.{far_in}
-use Rattle.marks.specs.Sweep.{row_before, Over}
+use Rattle.marks.specs.Sweep.{Over}
 use Rattle.marks.proofs.Rows.{over_none, before_more, over_more, AsFaulty, as_faulty_more, as_faulty_all}
-use Rattle.rows.specs.declared.Between.{Between}
-use Rattle.marks.proofs.sweep.over.Invariants.{Told}
 use Rattle.marks.proofs.sweep.over.Goals as goal
 use Rattle.marks.proofs.sweep.over.Goals.{In-loop-b, Start}
 

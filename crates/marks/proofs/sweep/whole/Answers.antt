@@ -1,5 +1,4 @@
 -- `marks::sweep::whole` meets its contract. Assumes nothing.
-use borrow.Author.Rules.{rules}
 use Rattle.marks.proofs.sweep.whole.Goals as goal
 
 pub returns : goal.returns

@@ -1,7 +1,6 @@
 -- `sweeps::bits::over` meets its contract: the rows before it give the way on Z, its own those on X and Y (`rows_ways`). Assumes nothing.
 use mathlib.Core.Path.{◌≡◌, ◌∙◌}
 use native.Mathlib.Omega.{arith}
-use borrow.Author.Rules.{rules}
 use lib.ListN.{length}
 use Rattle.sweeps.proofs.RowSweep.{rows_ways}
 use Rattle.sweeps.proofs.bits.over.Goals as goal

@@ -1,7 +1,6 @@
 -- `sweeps::bits::seen_at` meets its contract. Assumes nothing.
 use Prim.Native.Nat.{◌-◌}
 use native.Mathlib.Omega.{arith}
-use borrow.Author.Rules.{rules}
 use borrow.Author.Tests.{le-ltb, lt-ltb}
 use lib.ListN.{get_or}
 use Rattle.rows.proofs.Bits.{read_at}

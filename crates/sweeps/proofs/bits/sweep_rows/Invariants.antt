@@ -1,18 +1,13 @@
 -- `sweeps::bits::sweep_rows` meets its contract: row after row. Assumes nothing.
-use mathlib.Core.Path.{◌≡◌, refl, ap, ◌∙◌}
+use mathlib.Core.Path.{◌≡◌}
 use mathlib.Core.List.{List}
-use Prim.Native.Nat.{ℕ, ◌+◌, ◌-◌, ◌^◌, ◌<◌, ◌≤◌}
-use native.Mathlib.Omega.{arith}
-use borrow.Author.Rules.{rules}
-use lib.ListN.{length, get_or, length-set}
-use lib.Bits.{bit_or}
+use Prim.Native.Nat.{ℕ, ◌+◌, ◌-◌, ◌^◌, ◌≤◌}
+use lib.ListN.{length}
 use lib.Dec.{eqb}
 use Rattle.mesh.specs.Tools.{bit}
 use Rattle.mesh.specs.Cells.{Map}
-use Rattle.rows.specs.Row.{bit_at, swept}
 use Rattle.rows.specs.Box.{FaultyRows}
 use Rattle.sweeps.specs.Sweep.{row_before, Over}
-use Rattle.sweeps.proofs.RowSweep.{row_passes, over_none, first_none, first_more, before_more, over_more, over_all}
 use Rattle.rows.specs.declared.Between.{Between}
 use Rattle.sweeps.proofs.bits.sweep_rows.Given as goal
 

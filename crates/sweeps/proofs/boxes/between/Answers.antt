@@ -1,5 +1,4 @@
 -- `sweeps::boxes::between` meets its contract. Assumes nothing.
-use borrow.Author.Rules.{rules}
 use Rattle.sweeps.proofs.boxes.between.Goals as goal
 
 pub returns : goal.returns

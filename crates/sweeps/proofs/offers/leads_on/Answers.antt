@@ -1,5 +1,4 @@
 -- `sweeps::offers::leads_on` meets its contract. Assumes nothing.
-use borrow.Author.Rules.{rules}
 use borrow.Author.Tests.{eq-eqb, ne_eqb}
 use Rattle.sweeps.proofs.offers.leads_on.Goals as goal
 

@@ -1,5 +1,4 @@
 -- `sweeps::signed::difference` meets its contract: two coordinates and their difference are small. Assumes nothing.
-use borrow.Author.Rules.{rules}
 use mathlib.Core.Path.{refl}
 use native.Mathlib.Omega.{arith}
 use lib.IntN.{sub_ℕ}

@@ -6,7 +6,6 @@ use lib.Signed.{mag}
 use mir.Syntax.{w32}
 use mir.Val.{to_z, of_z}
 use native.Mathlib.Omega.{arith}
-use borrow.Author.Rules.{rules}
 use Rattle.mesh.proofs.Whole.{back}
 use Rattle.paths.specs.Differences.{hops}
 use Rattle.paths.proofs.Differences.{hops_is}

@@ -1,6 +1,5 @@
 -- `sweeps::signed::way` meets its contract: the three signs. Assumes nothing.
 use native.Mathlib.Omega.{arith}
-use borrow.Author.Rules.{rules}
 use Rattle.mesh.proofs.Whole.{back, above_zero, below_zero, level}
 use Rattle.sweeps.proofs.signed.way.Goals as goal
 
