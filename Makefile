@@ -18,7 +18,7 @@ $(error PREFIX and DESTDIR must be without blanks, and PREFIX not empty: PREFIX=
 endif
 endif
 
-proved := crates.txt $(shell find crates -type f -not -path '*/must-fail/*')
+proved := crates.txt $(shell find crates -type f -not -path '*/must-fail/*' -not -path '*/out/*')
 wrapper := rust/Cargo.toml rust/Cargo.lock $(shell find rust/dukthari rust/draw -type f)
 archive := target/staticlib/libdukthari.a
 ifeq ($(shell uname -m),x86_64)
@@ -34,7 +34,8 @@ test:
 	tests/run
 
 $(archive): $(proved)
-	rt staticlib dukthari
+	tools/build dukthari
+	touch $@
 
 target/native/libdukthari.a: $(archive) rust/native
 	rust/native
