@@ -2,7 +2,6 @@
 use native.Mathlib.Omega.{arith}
 use mathlib.Core.Path.{subst}
 use Rattle.answers.specs.Fields.{NumberedFits}
-use borrow.Author.Rules.{rules}
 use Rattle.answers.proofs.counted_fields.Goals as goal
 
 pub overflow_cast-count : goal.overflow_cast-count

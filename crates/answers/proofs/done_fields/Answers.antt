@@ -3,7 +3,6 @@ use mathlib.Core.Path.{subst}
 use Rattle.mesh.specs.Answers.{answer_bad}
 use Rattle.mesh.specs.declared.Answer.{Answer}
 use Rattle.answers.specs.Fields.{Fits}
-use borrow.Author.Rules.{rules}
 use Rattle.answers.proofs.done_fields.Goals as goal
 
 pub refused-requires : goal.refused-requires

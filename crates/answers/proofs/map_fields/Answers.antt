@@ -2,7 +2,6 @@
 use native.Mathlib.Omega.{arith}
 use mathlib.Core.Path.{subst}
 use Rattle.answers.specs.Fields.{MapFits}
-use borrow.Author.Rules.{rules}
 use Rattle.answers.proofs.map_fields.Goals as goal
 
 pub overflow_cast-w : goal.overflow_cast-w

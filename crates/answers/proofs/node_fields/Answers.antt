@@ -2,7 +2,6 @@
 use native.Mathlib.Omega.{arith}
 use mathlib.Core.Path.{subst}
 use Rattle.answers.specs.Fields.{NumberedFits}
-use borrow.Author.Rules.{rules}
 use Rattle.answers.proofs.node_fields.Goals as goal
 
 pub overflow_cast-node : goal.overflow_cast-node

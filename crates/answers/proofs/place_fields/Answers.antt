@@ -1,5 +1,4 @@
 -- `answers::place_fields` meets its contract, case by case. Assumes nothing.
-use borrow.Author.Rules.{rules}
 use Rattle.answers.proofs.place_fields.Goals as goal
 
 pub coordinates-requires : goal.coordinates-requires

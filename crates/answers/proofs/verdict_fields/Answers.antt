@@ -2,7 +2,6 @@
 use native.Mathlib.Omega.{arith}
 use mathlib.Core.Path.{subst}
 use Rattle.answers.specs.Fields.{VerdictFits}
-use borrow.Author.Rules.{rules}
 use Rattle.answers.proofs.verdict_fields.Goals as goal
 
 pub overflow_cast-hops : goal.overflow_cast-hops
