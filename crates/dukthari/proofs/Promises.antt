@@ -16,7 +16,8 @@ use Rattle.dukthari.proofs.dk_step.Kinds as step-kinds
 use Rattle.dukthari.proofs.dk_step.Reads as step-reads
 use Rattle.dukthari.proofs.dk_marks.Kinds as marks-kinds
 use Rattle.dukthari.proofs.dk_marks.Reads as marks-reads
-use Rattle.dukthari.proofs.Reading as components-reads
+use Rattle.dukthari.proofs.dk_components.Kinds as components-kinds
+use Rattle.dukthari.proofs.dk_components.Reads as components-reads
 use Rattle.dukthari.proofs.dk_verdict.Kinds as verdict-kinds
 use Rattle.dukthari.proofs.dk_verdict.Reads as verdict-reads
 use Rattle.dukthari.proofs.dk_route.Kinds as route-kinds
@@ -60,7 +61,7 @@ pub marks_kept : Promised 2 marks-kinds.ps marks-kinds.r marks-reads.Learnt
 marks_kept κs (w, (h, (d, (orientation, (cells, (out, _)))))) answer (_, (_, (_, (_, (_, (out', _)))))) (e, f) =
     as_left (dk_marks w h d orientation cells.now out.now) answer _ out'.now _ e f (marks_fields w h d orientation cells.now out.now)
 
-pub components_kept : Promised 3 components-reads.ps components-reads.r components-reads.Learnt
+pub components_kept : Promised 3 components-kinds.ps components-kinds.r components-reads.Learnt
     (λ κs (w, (h, (d, (orientation, (cells, (table, (row, _))))))) answer (_, (_, (_, (_, (_, (table', (row', _))))))). dk_components w h d orientation cells.now table.now row.now answer table'.now row'.now)
 components_kept κs (w, (h, (d, (orientation, (cells, (table, (row, _))))))) answer (_, (_, (_, (_, (_, (table', (row', _))))))) (e, f, g) =
     let page = dk_components w h d orientation cells.now table.now row.now in

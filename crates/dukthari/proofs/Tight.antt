@@ -12,7 +12,8 @@ use Rattle.dukthari.proofs.dk_step.Kinds as step-kinds
 use Rattle.dukthari.proofs.dk_step.Reads as step-reads
 use Rattle.dukthari.proofs.dk_marks.Kinds as marks-kinds
 use Rattle.dukthari.proofs.dk_marks.Reads as marks-reads
-use Rattle.dukthari.proofs.Reading as components-reads
+use Rattle.dukthari.proofs.dk_components.Kinds as components-kinds
+use Rattle.dukthari.proofs.dk_components.Reads as components-reads
 use Rattle.dukthari.proofs.dk_verdict.Kinds as verdict-kinds
 use Rattle.dukthari.proofs.dk_verdict.Reads as verdict-reads
 use Rattle.dukthari.proofs.dk_route.Kinds as route-kinds
@@ -64,12 +65,12 @@ marks_tight = record {
   kept = λ κs a x ws h n. (tt, (tt, (tt, (tt, (tt, ((marks_kept κs a x (at_exit (ended_of 2 marks-kinds.ps marks-kinds.r) κs a ws) h).nothing n, tt))))));
 }
 
-pub components_tight : Tight 3 components-reads.ps components-reads.r components-reads.Asked components-reads.Learnt (λ κs x. x.refusal)
+pub components_tight : Tight 3 components-kinds.ps components-kinds.r components-reads.Asked components-reads.Learnt (λ κs x. x.refusal)
 components_tight = record {
   every = λ κs a. tt;
   one = λ κs a x y ws vs h k. (h.0 ∙ sym k.0, λ i. (tt, (tt, (tt, (tt, (tt, ((h.1 ∙ sym k.1) i, ((h.2 ∙ sym k.2) i, tt))))))));
   lending = λ κs. (read_only, (read_only, (read_only, (read_only, (read_only, (lent, (lent, tt)))))));
-  kept = λ κs a x ws h n. let c = (components_kept κs a x (at_exit (ended_of 3 components-reads.ps components-reads.r) κs a ws) h).nothing n in (tt, (tt, (tt, (tt, (tt, (c.1, (c.2, tt)))))));
+  kept = λ κs a x ws h n. let c = (components_kept κs a x (at_exit (ended_of 3 components-kinds.ps components-kinds.r) κs a ws) h).nothing n in (tt, (tt, (tt, (tt, (tt, (c.1, (c.2, tt)))))));
 }
 
 pub verdict_tight : Tight 1 verdict-kinds.ps verdict-kinds.r verdict-reads.Asked verdict-reads.Learnt (λ κs x. x.refusal)

@@ -16,7 +16,7 @@ Promised n ps r Allows P = (κs : Lfts n) (a : Dens κs ps) (x : (res_t r κs).D
 -- What a call can leave of a parameter: nothing, where it is a number or is only read; the last value of what is lent to be written.
 pub data Lending : (D : Type 0) → Exit D → Type 1 where
   read_only : {D : Type 0} → Lending D unchanged
-  lent : {X : Type 0} {says : (x : MutBor X) → X → Fml} → Lending (MutBor X) (leaves (λ x. X) says (MutBor X) at_last)
+  lent : {X : Type 0} {says : (x : MutBor X) → X → Fml} → Lending (MutBor X) (leaves (λ x. X) says (MutBor X) at_last (λ x. x.now))
 
 -- the last value is the one that was there before
 abbrev pub Unchanged : {D : Type 0} {e : Exit D} → Lending D e → (x : D) → Last e x → Type 0
