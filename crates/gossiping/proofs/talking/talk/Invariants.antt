@@ -1,0 +1,17 @@
+-- `gossiping::talking::talk` meets its contract: as long as news is left there is a round to come, so that the rounds end. Assumes nothing.
+use mathlib.Core.Path.{◌≡◌}
+use Prim.Native.Nat.{◌-◌}
+use lib.ListN.{length}
+use Rattle.mesh.specs.Cells.{map_of}
+use Rattle.rounds.specs.Figures.{longest}
+use Rattle.gossiping.proofs.Turns.{Turn}
+use Rattle.gossiping.proofs.talking.talk.Given as goal
+
+abbrev pub invariant-loop-s : goal.invariant-loop-s
+invariant-loop-s l = (length l.state ≡ length l.initial.state)
+    × (length l.way ≡ length l.initial.way)
+    × (length l.out ≡ length l.initial.out)
+    × Turn (map_of l.s l.cells) l.o l.at l.initial.out l.state l.way l.out l.drawn l.r l.next
+
+abbrev pub decreases-loop-s : goal.decreases-loop-s
+decreases-loop-s l = longest l.s - l.r

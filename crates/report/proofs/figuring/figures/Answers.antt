@@ -1,0 +1,50 @@
+-- `report::figuring::figures` meets its contract: the bytes in front are the marks of the map. Assumes nothing.
+use mathlib.Core.Path.{◌≡◌, sym, ap, ◌∙◌}
+use mathlib.Core.List.{List}
+use Prim.Native.Nat.{ℕ}
+use lib.ListN.{length, take, replicate}
+use Rattle.std.proofs.lemmas.List.{length-replicate}
+use Rattle.mesh.specs.Mesh.{nodes}
+use Rattle.mesh.specs.Cells.{map_of}
+use Rattle.rules.specs.Marks.{marks_of}
+use Rattle.mesh.proofs.Answers.{map_granted}
+use Rattle.rules.proofs.Marks.{marks_length}
+use Rattle.counts.specs.Counts.{with_bit}
+use Rattle.counts.proofs.Counted.{useless_counted, cant_reach_counted}
+use Rattle.report.proofs.Granted.{marks_front}
+use Rattle.report.proofs.figuring.figures.Goals as goal
+use Rattle.report.proofs.figuring.figures.Goals.{After-nodes-n}
+
+-- the bytes in front, when their count is known
+in_front : (c : After-nodes-n) →
+    let a = c.args in
+    take c.nodes-n.result c.marks.new.out ≡ marks_of (map_of a.s a.cells.now) a.o
+in_front c =
+    let cells = c.args.cells.now in
+    ap (λ (n : ℕ). take n c.marks.new.out) c.nodes-n.ensures.0
+    ∙ ap (take (nodes c.args.s)) c.marks.ensures.out_after
+    ∙ marks_front c.args.s cells c.requires.0 c.args.o c.requires.1 (replicate 4096 0) (length-replicate {A = ℕ} 4096 0)
+
+as_many : (c : After-nodes-n) → c.nodes-n.result ≡ length (take c.nodes-n.result c.marks.new.out)
+as_many c =
+    let a = c.args in
+    c.nodes-n.ensures.0 ∙ sym (ap length (in_front c) ∙ marks_length (map_of a.s a.cells.now) a.o)
+
+pub nodes-n-requires : goal.nodes-n-requires
+nodes-n-requires c = (map_granted c.args.s c.args.cells.now c.requires.0).sized
+
+pub slice_bounds-count_marked-end : goal.slice_bounds-count_marked-end
+slice_bounds-count_marked-end c = as_many (goal.at.slice_bounds-count_marked-end c).After-nodes-n
+
+pub slice_bounds-count_marked-end-2 : goal.slice_bounds-count_marked-end-2
+slice_bounds-count_marked-end-2 c = as_many (goal.at.slice_bounds-count_marked-end-2 c).After-nodes-n
+
+pub returns : goal.returns
+returns c =
+    let a = c.args in
+    let m = map_of a.s a.cells.now in
+    rw (
+      c.count_marked-useless.ensures ∙ ap (λ (l : List ℕ). with_bit l 2) (in_front (goal.at.returns c).After-nodes-n) ∙ useless_counted m a.o,
+      c.count_marked-cannot_reach.ensures ∙ ap (λ (l : List ℕ). with_bit l 4) (in_front (goal.at.returns c).After-nodes-n) ∙ cant_reach_counted m a.o,
+      c.count_components-components.ensures,
+    )
