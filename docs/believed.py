@@ -1,7 +1,7 @@
 """What has to be believed: the pages of the promises, and the files of definitions that they lead into. For docs/check and docs/house."""
 import re
 
-CALLS = ['crates/answers/specs/Promises.antt', 'crates/answers/specs/Talking.antt', 'crates/dukthari/specs/Tight.antt', 'crates/dukthari/proofs/Reading.antt']
+CALLS = ['crates/answers/specs/Promises.antt', 'crates/answers/specs/Talking.antt', 'crates/dukthari/specs/Tight.antt']
 TEXTS = ['crates/report/specs/Report.antt', 'crates/gossiping/specs/Text.antt', 'crates/rounds/specs/Promise.antt',
          'crates/audit/specs/Audit.antt', 'crates/audit/specs/Heading.antt', 'crates/audit/specs/Usage.antt']
 
