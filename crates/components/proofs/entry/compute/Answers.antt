@@ -1,6 +1,5 @@
 -- `components::entry::compute` meets its contract: the flood on what is laid, and then the answer. Assumes nothing.
 use mathlib.Core.Path.{sym, ◌∙◌}
-use borrow.Author.Rules.{rules}
 use Rattle.grids.proofs.Layouts.{blank_long, blank_at}
 use Rattle.components.proofs.Outcomes.{sized, laid_untouched, laid_within, all_computed}
 use Rattle.components.proofs.entry.compute.Goals as goal

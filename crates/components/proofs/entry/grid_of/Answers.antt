@@ -14,7 +14,6 @@ use Rattle.rules.specs.Entry.{marks_answer, marks_written, marks_out}
 use Rattle.rules.proofs.Entry.{Granted, marks_granted}
 use Rattle.grids.specs.Grid.{grid_of}
 use Rattle.grids.proofs.Layouts.{blank_long, of_grid}
-use borrow.Author.Rules.{rules}
 use Rattle.components.proofs.entry.grid_of.Goals as goal
 use Rattle.components.proofs.entry.grid_of.Goals.{After-marks-a, After-nodes-n, In-Done}
 

@@ -1,7 +1,6 @@
 -- `components::entry::settle` meets its contract: the refusals in their order, and then the table. Assumes nothing.
 use Prim.Native.Nat.{◌≤◌}
 use native.Mathlib.Omega.{arith}
-use borrow.Author.Rules.{rules}
 use borrow.Author.Tests.{lt-leb, le-leb}
 use lib.ListN.{length}
 use Rattle.mesh.specs.Mesh.{nodes}

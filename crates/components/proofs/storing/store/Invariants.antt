@@ -1,5 +1,5 @@
 -- `components::storing::store` meets its contract: the first i records stand in the row. Assumes nothing.
-use Rattle.std.proofs.Common.{◌≡◌, ◌++◌, ◌≤◌, length, take, drop}
+use Rattle.std.proofs.Common.{◌≡◌, ◌++◌, take, drop}
 use Rattle.components.proofs.storing.store.Given as goal
 
 abbrev pub invariant-loop-i : goal.invariant-loop-i

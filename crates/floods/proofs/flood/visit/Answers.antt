@@ -1,6 +1,5 @@
 -- `floods::flood::visit` meets its contract: the test chooses between the two cases of `Visited`. Assumes nothing.
 use native.Mathlib.Omega.{arith}
-use borrow.Author.Rules.{rules}
 use Rattle.floods.specs.Flood.{entered, passed}
 use Rattle.floods.proofs.flood.visit.Goals as goal
 

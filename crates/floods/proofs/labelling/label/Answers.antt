@@ -1,9 +1,7 @@
 -- `floods::labelling::label` meets its contract. The loops' invariant: what is known at the next place. Assumes nothing.
 use mathlib.Core.Path.{sym, ap, ◌∙◌}
-use mathlib.Core.List.{List}
-use Prim.Native.Nat.{ℕ, ◌-◌, ◌+◌, ◌*◌, ◌≤◌, ◌<◌}
+use Prim.Native.Nat.{◌<◌}
 use native.Mathlib.Omega.{arith}
-use borrow.Author.Rules.{rules}
 use lib.ListN.{length}
 use Rattle.grids.proofs.Layouts.{blank_long}
 use Rattle.floods.proofs.Turns.{Turn, turn_none, turn_past, turn_layer, turn_end, few_yet, flood_asks, record_asks, turn_more}

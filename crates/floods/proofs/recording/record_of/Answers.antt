@@ -1,8 +1,7 @@
 -- `floods::recording::record_of` meets its contract. The loop's invariant: the record's box is that of the first `t` places. Assumes nothing.
-use mathlib.Core.Path.{◌≡◌, sym, ap, ◌∙◌, subst}
-use Prim.Native.Nat.{ℕ, ◌-◌, ◌+◌, ◌≤◌}
+use mathlib.Core.Path.{sym, ap, ◌∙◌, subst}
+use Prim.Native.Nat.{ℕ, ◌+◌}
 use native.Mathlib.Omega.{arith}
-use Rattle.floods.specs.Label.{alone}
 use Rattle.touching.specs.declared.Component.{Component}
 use Rattle.floods.proofs.Boxes.{Boxed, boxed_one, boxed_more}
 use Rattle.floods.proofs.recording.record_of.Goals as goal

@@ -1,5 +1,4 @@
 -- `floods::recording::widened` meets its contract, field by field. Assumes nothing.
-use borrow.Author.Rules.{rules}
 use Rattle.floods.proofs.recording.widened.Goals as goal
 
 pub returns : goal.returns

@@ -1,10 +1,8 @@
 -- `routes::entries::check_ends` meets its contract: each check is run where those before it are granted. Assumes nothing.
 use mathlib.Core.Path.{◌≡◌, ◌∙◌, sym}
-use mathlib.Core.Logic.{⊎_elim}
 use mathlib.Core.Bool.{true}
 use native.Mathlib.Omega.{arith}
-use borrow.Author.Rules.{rules}
-use borrow.Author.Tests.{not-true, not-false, lt-ltb, le-ltb, leb-true, leb-false}
+use borrow.Author.Tests.{lt-ltb, le-ltb}
 use lib.ListN.{get_or}
 use lib.Dec.{ltb}
 use Rattle.mesh.specs.Mesh.{nodes}

@@ -1,6 +1,5 @@
 -- `routes::entries::route` meets its contract: the ends are checked, and then the route is written. Assumes nothing.
 use mathlib.Core.Path.{sym, ◌∙◌}
-use borrow.Author.Rules.{rules}
 use Rattle.routes.proofs.Ends.{Past, past_ends}
 use Rattle.trails.proofs.Routing.{route_refused, route_past}
 use Rattle.routes.proofs.entries.route.Goals as goal

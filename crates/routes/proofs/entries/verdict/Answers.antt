@@ -3,7 +3,6 @@ use mathlib.Core.Path.{◌≡◌, refl, ◌∙◌, sym, subst}
 use mathlib.Core.Bool.{Bool, true, false, ◌&&◌}
 use native.Mathlib.Nat.{lt_of_not-le}
 use native.Mathlib.Omega.{arith}
-use borrow.Author.Rules.{rules}
 use borrow.Author.Tests.{ltb-false, eqb-false}
 use lib.Dec.{eqb, ltb}
 use Rattle.mesh.specs.Mesh.{place_of, Inside}

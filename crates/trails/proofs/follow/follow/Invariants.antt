@@ -1,21 +1,10 @@
 -- `trails::follow::follow` meets its contract: the place is where the way has come to. Assumes nothing.
-use mathlib.Core.Path.{◌≡◌, refl, sym, ap, ◌∙◌, subst}
-use mathlib.Core.List.{List}
-use Prim.Native.Nat.{ℕ, ◌+◌, ◌-◌, ◌≤◌}
-use native.Mathlib.Numerals.{add-one}
-use native.Mathlib.Omega.{arith}
-use borrow.Author.Rules.{rules}
+use mathlib.Core.Path.{◌≡◌}
+use Prim.Native.Nat.{◌-◌, ◌≤◌}
 use Rattle.mesh.specs.Mesh.{number}
 use Rattle.mesh.specs.Fill.{Filled}
-use Rattle.mesh.proofs.Fill.{fill_none, fill_more}
-use Rattle.mesh.proofs.Numbers.{nodes_le}
-use Rattle.mesh.specs.declared.Sizes.{Sizes}
-use Rattle.mesh.specs.declared.Place.{Place}
-use Rattle.rows.specs.Box.{reach, Within}
-use Rattle.rows.proofs.Box.{far_in}
-use Rattle.rows.specs.declared.Between.{Between}
-use Rattle.trails.specs.Table.{nearest, trail}
-use Rattle.trails.proofs.Following.{trail_within}
+use Rattle.rows.specs.Box.{reach}
+use Rattle.trails.specs.Table.{trail}
 use Rattle.trails.proofs.follow.follow.Given as goal
 
 abbrev pub invariant-loop-i : goal.invariant-loop-i

@@ -1,7 +1,6 @@
 -- `trails::follow::step_nearer` meets its contract: where a way is seen, a step is left. Assumes nothing.
 use mathlib.Core.Path.{◌≡◌, sym, ap, ◌∙◌}
 use Prim.Native.Nat.{◌+◌, ◌*◌, ◌≤◌}
-use borrow.Author.Rules.{rules}
 use borrow.Author.Tests.{eq-eqb, ne_eqb}
 use Rattle.sweeps.proofs.RowSweep.{seen_left}
 use Rattle.sweeps.specs.declared.Ways.{Ways}

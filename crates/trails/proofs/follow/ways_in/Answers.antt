@@ -1,5 +1,4 @@
 -- `trails::follow::ways_in` meets its contract. Assumes nothing.
-use borrow.Author.Rules.{rules}
 use Rattle.trails.proofs.follow.ways_in.Goals as goal
 
 pub returns : goal.returns

@@ -4,12 +4,10 @@ use mathlib.Core.Path.{◌≡◌, sym, ap, ◌∙◌, subst}
 use mathlib.Core.Bool.{not, ◌||◌}
 use mathlib.Core.List.{List}
 use Prim.Native.Nat.{ℕ, ◌+◌, ◌≤◌}
-use borrow.Author.Rules.{rules}
-use borrow.Author.Tests.{not-true, not-false}
 use lib.ListN.{length}
 use lib.Dec.{eqb}
 use Rattle.mesh.specs.Mesh.{number}
-use Rattle.mesh.specs.Cells.{Map, map_of}
+use Rattle.mesh.specs.Cells.{map_of}
 use Rattle.mesh.specs.Fill.{Filled}
 use Rattle.mesh.proofs.Tests.{holds_true}
 use Rattle.mesh.specs.declared.Sizes.{Sizes}

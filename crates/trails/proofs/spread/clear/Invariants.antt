@@ -1,9 +1,6 @@
 -- `trails::spread::clear` meets its contract. Assumes nothing.
-use mathlib.Core.Path.{◌≡◌, refl, subst}
-use Prim.Native.Nat.{ℕ, ◌-◌, ◌≤◌}
-use native.Mathlib.Omega.{arith}
+use Prim.Native.Nat.{◌-◌, ◌≤◌}
 use Rattle.mesh.specs.Fill.{Filled}
-use Rattle.mesh.proofs.Fill.{fill_none, fill_more}
 use Rattle.trails.proofs.spread.clear.Given as goal
 
 abbrev pub invariant-loop-i : goal.invariant-loop-i

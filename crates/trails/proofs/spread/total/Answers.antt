@@ -1,6 +1,6 @@
 -- `trails::spread::total` meets its contract: the sum of so many bits is no more than their number. Assumes nothing.
 use mathlib.Core.Path.{◌≡◌, refl, ◌∙◌, ap}
-use Prim.Native.Nat.{ℕ, ◌-◌, ◌≤◌}
+use Prim.Native.Nat.{ℕ, ◌≤◌}
 use native.Mathlib.Omega.{arith}
 use lib.ListN.{get_or}
 use Rattle.mesh.specs.Tools.{sum}

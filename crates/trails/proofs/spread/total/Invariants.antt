@@ -1,10 +1,8 @@
 -- `trails::spread::total` meets its contract: the sum of so many bits is no more than their number. Assumes nothing.
-use mathlib.Core.Path.{◌≡◌, refl, ◌∙◌, ap}
-use Prim.Native.Nat.{ℕ, ◌-◌, ◌≤◌}
-use native.Mathlib.Omega.{arith}
+use mathlib.Core.Path.{◌≡◌}
+use Prim.Native.Nat.{◌-◌, ◌≤◌}
 use lib.ListN.{get_or}
 use Rattle.mesh.specs.Tools.{sum}
-use Rattle.mesh.proofs.Tables.{sum_more}
 use Rattle.trails.proofs.spread.total.Given as goal
 
 abbrev pub invariant-loop-i : goal.invariant-loop-i

@@ -1,16 +1,14 @@
 -- `trails::spread::write_reached` meets its contract: all bytes are 0, then the box's, and last the end's. Assumes nothing.
 use mathlib.Core.Path.{◌≡◌, sym, ap, ◌∙◌, subst}
-use mathlib.Core.Bool.{Bool, not, ◌||◌}
+use mathlib.Core.Bool.{not, ◌||◌}
 use Prim.Native.Nat.{ℕ, ◌+◌}
 use native.Mathlib.Omega.{arith}
-use borrow.Author.Rules.{rules}
 use lib.ListN.{set, length-set}
 use lib.Dec.{eqb}
 use Rattle.mesh.specs.Tools.{bit}
 use Rattle.mesh.specs.Mesh.{nodes}
-use Rattle.mesh.specs.Cells.{Map, map_of}
+use Rattle.mesh.specs.Cells.{map_of}
 use Rattle.mesh.specs.Fill.{Filled}
-use Rattle.mesh.specs.declared.Place.{Place}
 use Rattle.paths.specs.Differences.{hops}
 use Rattle.paths.specs.Paths.{leads}
 use Rattle.rows.specs.Box.{between, far}
