@@ -20,7 +20,7 @@ use touching::Component;
 
 pub mod files;
 mod grouping;
-pub mod states;
+pub mod state_calls;
 
 // The fields of the answer for components, and the records that are still to be stored: none on a refusal.
 #[derive(Clone, Copy)]

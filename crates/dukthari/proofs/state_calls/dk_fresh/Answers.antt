@@ -1,7 +1,7 @@
--- `dukthari::states::dk_fresh` meets its contract: the answer is passed on, and its bad cell fits. Assumes nothing.
+-- `dukthari::state_calls::dk_fresh` meets its contract: the answer is passed on, and its bad cell fits. Assumes nothing.
 use mathlib.Core.Path.{◌∙◌}
 use Rattle.dukthari.proofs.Small.{fresh_fits}
-use Rattle.dukthari.proofs.states.dk_fresh.Goals as goal
+use Rattle.dukthari.proofs.state_calls.dk_fresh.Goals as goal
 
 pub done_fields-requires : goal.done_fields-requires
 done_fields-requires c = let a = c in rw (a.fresh-a.ensures.value, a.sizes_of.ensures) (fresh_fits _ _ _ _)
