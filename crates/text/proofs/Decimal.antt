@@ -1,14 +1,14 @@
 -- A number has at most twenty digits, and its digits stored from the last to the first are those of `decimal`. Assumes nothing.
 use mathlib.Core.Path.{◌≡◌, refl, sym, ap, ◌∙◌, subst}
 use mathlib.Core.Bool.{Bool, true, false, cond}
-use mathlib.Core.List.{List, [], ◌∷◌, ◌++◌, append_assoc, append-nil}
+use mathlib.Core.List.{List, [], ◌∷◌, ◌++◌, append_assoc}
 use Prim.Native.Nat.{ℕ, zero, suc, ◌+◌, ◌-◌, ◌/◌, ◌%◌, ◌^◌, ◌≤◌, ◌<◌}
 use native.Mathlib.Nat.{pow-suc}
 use native.Mathlib.Numerals.{add-one}
 use native.Mathlib.Omega.{arith}
 use borrow.Author.Tests.{lt-ltb, le-ltb}
 use lib.Dec.{ltb}
-use lib.ListN.{length, length-append, length-set, set, drop, drop_of_length-le}
+use lib.ListN.{length, length-append, length-set, set, drop}
 use Rattle.std.proofs.lemmas.List.{drop-set}
 use Rattle.text.specs.Text.{ascii, decimal_within, decimal}
 
@@ -40,20 +40,6 @@ pub record Storing (n i rest : ℕ) (digits : List ℕ) : Type 0 where
   pub room : length digits ≡ 20
   pub small : rest < 10 ^ suc i
   pub whole : decimal n ≡ decimal_within (suc i) rest ++ drop (suc i) digits
-
-pub storing_none : (n : ℕ) (digits : List ℕ) → length digits ≡ 20 → n < 2 ^ 64 → Storing n 19 n digits
-storing_none n digits room fits =
-    let e : drop 20 digits ≡ [] = drop_of_length-le digits {i = 20} (omega arith) in
-    record {
-      place = omega arith;
-      room = room;
-      small = omega arith;
-      whole = sym (append-nil (decimal n)) ∙ ap (λ (l : List ℕ). decimal n ++ l) (sym e);
-    }
-
-pub storing_before : {n i rest : ℕ} {digits : List ℕ} → Storing n i rest digits → 10 ≤ rest → 1 ≤ i
-storing_before {i = zero} s h = omega (arith, s.small)
-storing_before {i = suc i} s h = omega arith
 
 -- one digit more, at place `suc i`
 storing_next : {n i rest : ℕ} {digits : List ℕ} → Storing n (suc i) rest digits → 10 ≤ rest

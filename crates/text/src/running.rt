@@ -1,4 +1,4 @@
-// What the programs share, and nothing proves more of than that it is safe: room for a file, a file opened and named, bytes read, text printed.
+// What the programs share, and little is proved of but that it is safe: room for a file, a file opened and named, bytes read, text printed.
 ghost use Rattle.std.specs.Prelude.{◌≡◌, ◌≤◌, length, replicate, take, IfOk, OnOk};
 ghost use Rattle.std.specs.Io.KnownBytes.{Appends};
 
@@ -46,11 +46,14 @@ fn open<R: Files>(rt: &R, path: &[u8]) -> Result<R::File> {
     }
 }
 
-// How long the system's words for an error are, which its number follows in parentheses.
+// How long the words for an error are, which zeros follow, or the system's number for it in parentheses.
 fn words(told: &[u8]) -> usize
     ensures { result ≤ length told.now }
 {
     for i in 0..told.len() {
+        if told[i] == 0 {
+            return i;
+        }
         if told[i] == b'(' {
             return i.saturating_sub(1);
         }
@@ -58,9 +61,9 @@ fn words(told: &[u8]) -> usize
     told.len()
 }
 
-// Writes a line: what failed, and the system's words for the error.
+// Writes a line: the file, and why it cannot be opened.
 fn fail<E: Write>(to: &mut E, path: &[u8], error: Error) -> Result<()> {
-    let mut told = [b'('; 128];
+    let mut told = [0u8; 128];
     let mut room = &mut told[..];
     let _ = write!(room, "{error}");
     let n = words(&told);
