@@ -2,6 +2,8 @@
  * file and a log must be the search program's (rust/oracle), byte for byte. The input is how the map and the log are made, how many bytes a read
  * or a write moves, then a map file as it comes, or sizes and cells; the rest is the log, at times filled up to about the greatest length. */
 #include "fuzz.h"
+#include <errno.h>
+#include <fcntl.h>
 #include <stdbool.h>
 #include <sys/types.h>
 
@@ -23,23 +25,31 @@ static size_t most; /* that a read or a write moves at once */
 
 static size_t least(size_t a, size_t b) { return a < b ? a : b; }
 
-/* The arguments are the program's name, and the names m and l of the map and the log. */
-size_t rattle_arg_count(void) { return 3; }
-
+/* The arguments are the program's name, and the names m and l of the map and the log: -1 where there are no more, -2 where one does not fit. */
 ssize_t rattle_arg(size_t i, uint8_t *out, size_t out_len) {
-    CHECK(i < 3 && out_len > 0);
+    if (i >= 3)
+        return -1;
+    if (out_len == 0)
+        return -2;
     out[0] = (uint8_t) "aml"[i];
     return 1;
 }
 
-int rattle_open_to_read(const char *path) {
+int audit_open(const char *path, int flags, ...) {
+    CHECK((flags & O_ACCMODE) == O_RDONLY && (flags & O_CREAT) == 0);
     CHECK(strcmp(path, "m") == 0 || strcmp(path, "l") == 0);
     return path[0] == 'm' ? MAP : LOG;
 }
 
-int rattle_errno(void) { return 0; }
+/* No error but that of an argument: of one that is not there, or does not fit. */
+static int error;
 
-void rattle_set_errno(int error) { CHECK(error == 0); }
+int rattle_errno(void) { return error; }
+
+void rattle_set_errno(int e) {
+    CHECK(e == 0 || e == EINVAL || e == ENAMETOOLONG);
+    error = e;
+}
 
 int audit_close(int from) {
     CHECK(from == MAP || from == LOG);
