@@ -1,5 +1,5 @@
 // The audit of a log, line by line.
-ghost use Rattle.std.specs.Prelude.{◌≡◌, ◌≤◌, length, IfOk};
+ghost use Rattle.std.specs.Prelude.{◌≡◌, ◌≤◌, length};
 ghost use Rattle.text.specs.Text.{Said};
 ghost use Rattle.audit.specs.Audit.{line_text, line_totals, totals_of, Few};
 ghost use Rattle.transfers.specs.Room.{transfer_room};
@@ -46,25 +46,34 @@ fn audit_line(s: Sizes, cells: &[u8], t: Totals, line: &[u8], out: &mut [u8]) ->
     }
 }
 
-// Prints the text for each line; the totals.
+// Prints the first n bytes, unless a write failed before.
+fn print_on<W: Write>(printed: Result<()>, to: &mut W, text: &[u8], n: usize) -> Result<()>
+    requires { n ≤ length text.now }
+{
+    printed?;
+    print_front(to, text, n)
+}
+
+// Prints the text for each line, until a write fails; the totals of all lines, and whether one failed.
 pub(crate) fn audit_log<W: Write>(
     s: Sizes,
     cells: &[u8],
     log: &[u8],
     out: &mut [u8],
     to: &mut W,
-) -> Result<Totals>
+) -> (Totals, Result<()>)
     requires { (length log.now ≤ longest_log) × (transfer_room ≤ length out.old) }
-    ensures { IfOk result (λ t. t ≡ totals_of s cells.now log.now) }
+    ensures { result.0 ≡ totals_of s cells.now log.now }
 {
     let mut t = Totals::none();
+    let mut printed = Ok(());
     let mut at = 0;
     while at < log.len() {
         let line = line_from(log, at);
         let done = audit_line(s, cells, t, line, out);
         t = done.totals;
-        print_front(to, out, done.used)?;
+        printed = print_on(printed, to, out, done.used);
         at += line.len() + 1;
     }
-    Ok(t)
+    (t, printed)
 }

@@ -31,7 +31,8 @@ fn print_audit<W: Write>(
     if long {
         return Ok(());
     }
-    let t = audit_log(s, cells, log, out, to)?;
+    let (t, printed) = audit_log(s, cells, log, out, to);
+    printed?;
     let k = tell_totals(t, out);
     print_front(to, out, k)
 }

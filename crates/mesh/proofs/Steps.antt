@@ -178,8 +178,8 @@ module _ (S : Sizes) (p q : Place) (i : Inside S p) where
       go_lt true c n t l = omega arith
       go_lt false c n t l = ltb→lt (c + 1) n t
 
-  returns-along : (a : Axis) (down : Bool) → next S p (along a down) ≡ At q → next S q (along a (not down)) ≡ At p
-  returns-along a down e =
+  returns_along : (a : Axis) (down : Bool) → next S p (along a down) ≡ At q → next S q (along a (not down)) ≡ At p
+  returns_along a down e =
       let (t, f) = led S p i a down q e in
       rw (next_along S q (next_in (along a down) e) a (not down), f) (back_again a down t)
     where
@@ -206,7 +206,7 @@ module _ (S : Sizes) (p q : Place) (i : Inside S p) where
   pub returns : (j : ℕ) → next S p j ≡ At q → next S q (opposite j) ≡ At p
   returns j e =
       let (a, down, k) = dir_of j (dir_led S p q j e) in
-      rw (k, opposite_along a down) (returns-along a down (rw k at e))
+      rw (k, opposite_along a down) (returns_along a down (rw k at e))
 
 -- ---- two directions do not lead to one neighbour
 

@@ -84,7 +84,7 @@ module _ (S : Sizes) (o : ℕ) (s : List ℕ) where
   abbrev to : ℕ → ℕ → Next
   to k j = next S (place_of S k) j
 
-  -- nodeRight, with the question of the map answered from the state
+  -- `node_right`, with the question of the map answered from the state
   right_is : (k : ℕ) → k < nodes S → node_right m o s k ≡ cond (eqb (own s k) 1) (faulty_right m s k) (working_right m o s k)
   unfolding node_right
   right_is k l = rw (faulty_in S s k l)
@@ -145,6 +145,6 @@ module _ (S : Sizes) (o : ℕ) (s : List ℕ) where
       (T-all (nodes S) (node_test S o s)).1 λ k l. rw (node_same (λ k l. right_own k l (f k l)) k l) (f k l))
 
   -- what the scan finds, row by row
-  pub scan-is : length s ≡ state_length S → all (S.h * S.d) (row_test S o s) ≡ sound S o s
+  pub scan_is : length s ≡ state_length S → all (S.h * S.d) (row_test S o s) ≡ sound S o s
   unfolding sound sound_on
-  scan-is e = sym (all_rows S.w (S.h * S.d) (node_test S o s)) ∙ all_nodes ∙ (rw (eq-eqb (length s) (state_length S) e))
+  scan_is e = sym (all_rows S.w (S.h * S.d) (node_test S o s)) ∙ all_nodes ∙ (rw (eq-eqb (length s) (state_length S) e))

@@ -1,4 +1,4 @@
--- How the code goes through a state: node by node, row by row. `scan-is` and `news_is` of proofs/ show that it finds what 01 says. Assumes
+-- How the code goes through a state: node by node, row by row. `scan_is` and `news_is` of proofs/ show that it finds what 01 says. Assumes
 -- nothing.
 use Rattle.std.specs.Prelude.{Bool, cond, not, ◌&&◌, List, ℕ, ◌+◌, ◌*◌, eqb}
 use Rattle.mesh.specs.Tools.{all, sum, count}

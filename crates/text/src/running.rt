@@ -99,7 +99,7 @@ pub fn open_named<R: Env + Files, W: Write, E: Write>(
     }
 }
 
-// Reads until the lent bytes are full or the input ends; how many were read.
+// Reads until the lent bytes are full or the input ends; how many were read. An error is the reader's own, and leaves open what the bytes are.
 pub fn read_front<R: Read>(from: &mut R, file: &mut [u8]) -> Result<usize>
     ensures { IfOk result (λ n. n ≤ length file.new) }
 {
@@ -114,7 +114,7 @@ pub fn read_front<R: Read>(from: &mut R, file: &mut [u8]) -> Result<usize>
     Ok(done)
 }
 
-// Prints the first n bytes.
+// Prints the first n bytes. An error is the writer's own, and leaves open how many it took.
 pub fn print_front<W: Write>(out: &mut W, text: &[u8], n: usize) -> Result<()>
     requires { n ≤ length text.now }
     ensures { OnOk result (Appends (W.contents out.old) (W.contents out.new) (take n text.now)) }

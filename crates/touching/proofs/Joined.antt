@@ -17,7 +17,7 @@ use Rattle.rules.specs.Marks.{mark_at, unsafe_at, marks_of}
 use Rattle.mesh.specs.declared.Sizes.{Sizes}
 use Rattle.touching.specs.Lists.{is_in, keep}
 use Rattle.touching.specs.Touch.{unsafe, unsafe_nodes, touching, Joined, itself, further, near, grown, component, joined}
-use Rattle.touching.proofs.Lists.{T-any-of, T-keep, keep_few, keep_tight, keep_ext, T-table, Ascending, keep_ascends, table_ascends}
+use Rattle.touching.proofs.Lists.{T-any_of, T-keep, keep_few, keep_tight, keep_ext, T-table, Ascending, keep_ascends, table_ascends}
 use Rattle.touching.proofs.Eighteen.{touch_sym}
 
 -- ---- joined goes both ways and on
@@ -81,7 +81,7 @@ module _ (S : Sizes) (among : List ℕ) (a : ℕ) where
   wider : (n k : ℕ) → T (is_in k among) → T (asks n k) → T (asks (suc n) k)
   wider n k i t =
       let here : T (is_in k (grown S among a n)) = rw (kept n) ((T-keep (asks n) among k).1 (i, t)) in
-      (T-any-of (grown S among a n) (λ j. eqb j k || touching S j k)).1 (k, here, (T-or (eqb k k) (touching S k k)).1 (inl (eqb_refl k)))
+      (T-any_of (grown S among a n) (λ j. eqb j k || touching S j k)).1 (k, here, (T-or (eqb k k) (touching S k k)).1 (inl (eqb_refl k)))
 
   again : (n : ℕ) → grown S among a (suc n) ≡ grown S among a n → grown S among a (suc (suc n)) ≡ grown S among a (suc n)
   again n e = kept (suc (suc n)) ∙ ap (λ (l : List ℕ). keep (near S l) among) e ∙ sym (kept (suc n))
@@ -134,7 +134,7 @@ module _ (S : Sizes) (among : List ℕ) (a : ℕ) where
   unfolding component
   closed j k i t m =
       let n = length among in
-      let hit : T (asks (suc n) k) = (T-any-of (grown S among a n) (λ j. eqb j k || touching S j k)).1
+      let hit : T (asks (suc n) k) = (T-any_of (grown S among a n) (λ j. eqb j k || touching S j k)).1
       (j, i, (T-or (eqb j k) (touching S j k)).1 (inr t)) in
       let e : keep (asks (suc n)) among ≡ component S among a = sym (kept (suc n)) ∙ settled in
       rw e at ((T-keep (asks (suc n)) among k).1 (m, hit))
@@ -149,7 +149,7 @@ module _ (S : Sizes) (marks : List ℕ) where
       subst (Joined S marks a) ((T-eq a b).0 t) (itself ((T-unsafe marks a).0 (rw ((T-eq a b).0 t) m)))
   sound a (suc n) b i =
       let (m, t) = (T-keep (near S (grown S (unsafe_nodes marks) a n)) (unsafe_nodes marks) b).0 i in
-      let (j, h, x) = (T-any-of (grown S (unsafe_nodes marks) a n) (λ j. eqb j b || touching S j b)).0 t in
+      let (j, h, x) = (T-any_of (grown S (unsafe_nodes marks) a n) (λ j. eqb j b || touching S j b)).0 t in
       elim ((T-or (eqb j b) (touching S j b)).0 x) [
         | inl e ↦ subst (Joined S marks a) ((T-eq j b).0 e) (sound a n j h)
         | inr y ↦ further (sound a n j h) y ((T-unsafe marks b).0 m)

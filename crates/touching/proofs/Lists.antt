@@ -28,19 +28,19 @@ pub in_none : (k : ℕ) → T (is_in k []) → ⊥
 unfolding any_of
 in_none k t = t
 
-pub T-any-of : (l : List ℕ) (p : ℕ → Bool) → T (any_of l p) ↔ ((k : ℕ) × T (is_in k l) × T (p k))
+pub T-any_of : (l : List ℕ) (p : ℕ → Bool) → T (any_of l p) ↔ ((k : ℕ) × T (is_in k l) × T (p k))
 unfolding any_of
-T-any-of [] p = (λ t. absurd t, λ f. absurd f.1)
-T-any-of (j ∷ js) p = (
+T-any_of [] p = (λ t. absurd t, λ f. absurd f.1)
+T-any_of (j ∷ js) p = (
   λ t. elim ((T-or (p j) (any_of js p)).0 t) [
     | inl h ↦ (j, in_first j js, h)
-    | inr h ↦ let (k, i, x) = (T-any-of js p).0 h in (k, (T-in k j js).1 (inr i), x)
+    | inr h ↦ let (k, i, x) = (T-any_of js p).0 h in (k, (T-in k j js).1 (inr i), x)
   ],
   λ f.
       let (k, i, x) = f in
       (T-or (p j) (any_of js p)).1 (elim ((T-in k j js).0 i) [
         | inl e ↦ inl (subst (λ (n : ℕ). T (p n)) e x)
-        | inr h ↦ inr ((T-any-of js p).1 (k, h, x))
+        | inr h ↦ inr ((T-any_of js p).1 (k, h, x))
       ]),
 )
 

@@ -14,7 +14,7 @@ use Rattle.mesh.proofs.Strides.{sum_rows}
 use Rattle.talk.specs.Sound.{sound}
 use Rattle.scans.specs.Scan.{row_test, row_news, node_news}
 use Rattle.talk.proofs.Decide.{sound_iff}
-use Rattle.scans.proofs.Scanned.{scan-is}
+use Rattle.scans.proofs.Scanned.{scan_is}
 use Rattle.scans.proofs.Counted.{news_is}
 use Rattle.scans.proofs.scan.Goals as goal
 
@@ -35,7 +35,7 @@ returns-then-seen-ne0 c =
     let rows = row_test a.s a.o a.state.now in
     let bad : rows l.at ≡ false = sym c.row-seen.ensures.0 ∙ ne_eqb c.row-seen.result.wrong 0 c.if-seen-ne0.true in
     let no : sound a.s a.o a.state.now ≡ false =
-    sym (scan-is a.s a.o a.state.now c.requires.0.long) ∙ all_fails (a.s.h * a.s.d) rows l.at (omega arith) bad in
+    sym (scan_is a.s a.o a.state.now c.requires.0.long) ∙ all_fails (a.s.h * a.s.d) rows l.at (omega arith) bad in
     rw no
 
 pub overflow_add-news : goal.overflow_add-news
@@ -66,7 +66,7 @@ returns c =
     let rows = row_test a.s a.o t in
     let e : l.at ≡ a.s.h * a.s.d = omega arith in
     let yes : sound a.s a.o t ≡ true =
-    sym (ap (λ (n : ℕ). all n rows) e ∙ scan-is a.s a.o t c.requires.0.long) ∙ l.invariant.1 in
+    sym (ap (λ (n : ℕ). all n rows) e ∙ scan_is a.s a.o t c.requires.0.long) ∙ l.invariant.1 in
     rw yes (ap Number (
     l.invariant.2
     ∙ ap (λ (n : ℕ). sum n (row_news a.s t)) e

@@ -30,8 +30,8 @@ audit_line-done-requires g c =
     let s = c.requires in
     (more c.loop-at.invariant.1 (omega (arith, s.0, c.loop-at-test.true)), omega (arith, s.1, c.loop-at.invariant.2))
 
-pub print_front-requires : goal.print_front-requires
-print_front-requires g c = omega (arith, c.audit_line-done.ensures.2, c.audit_line-done.auto.out, c.loop-at.invariant.2, c.requires.1)
+pub print_on-printed-requires : goal.print_on-printed-requires
+print_on-printed-requires g c = omega (arith, c.audit_line-done.ensures.2, c.audit_line-done.auto.out, c.loop-at.invariant.2, c.requires.1)
 
 pub overflow_add-at : goal.overflow_add-at
 overflow_add-at g c = omega (arith, within c.args.log.now c.line_from-line.result.now c.loop-at.at c.line_from-line.ensures c.loop-at-test.true, c.requires.0)
