@@ -5,7 +5,7 @@ use mathlib.Core.Bool.{true}
 use mathlib.Core.List.{List, [], ◌++◌}
 use Prim.Native.Nat.{ℕ, zero, suc, ◌+◌, ◌-◌, ◌≤◌, ◌<◌}
 use native.Mathlib.Omega.{arith}
-use borrow.Author.Tests.{le-leb}
+use borrow.Author.Tests.{le-leb, lt-leb}
 use lib.Dec.{T, leb}
 use lib.ListN.{length, get_or, take, drop, length-drop, length-replicate, take-append-drop}
 use lib.Seq.{ext_get_or, get_or-drop, length-take-le, take_at}
@@ -15,6 +15,7 @@ use Rattle.rules.specs.Marks.{marks_of}
 use Rattle.mesh.specs.Answers.{granted, numbered, answer_value, ◌and_then◌, check_map, check_orientation, check_room}
 use Rattle.mesh.specs.declared.Sizes.{Sizes}
 use Rattle.mesh.specs.declared.Refusal.{Refusal}
+use Rattle.mesh.specs.declared.Refusal.TheVariants.{NoRoom}
 use Rattle.mesh.specs.declared.Answer.{Answer}
 use Rattle.mesh.specs.declared.Answer.TheVariants.{Done, Refused}
 use Rattle.mesh.specs.declared.Numbered.{Numbered}
@@ -164,6 +165,12 @@ answered_refused S checked g count room old r e =
       copied = λ d. let z : ◌≡◌ {A = ℕ} 0 1 = cc (e, d) in absurd (omega arith);
       kept = λ x q. refl;
     }
+
+-- no room in the row: refused by 3, the table as it was
+pub no_row : (S : Sizes) (checked : Answer) (g : List ℕ) (count room : ℕ) (old : List ℕ) → checked ≡ Done → nodes S ≤ length old → room < count
+    → Answered S checked g count room old old (NotNumbered NoRoom)
+no_row S checked g count room old e h k =
+    answered_refused S checked g count room old NoRoom (rw (e, le-leb (nodes S) (length old) h, lt-leb count room k))
 
 pub answered_granted : (S : Sizes) (checked : Answer) (g : List ℕ) (count room : ℕ) (old new : List ℕ)
     → room_check S checked count (length old) room ≡ Done → new ≡ copied S g old → Answered S checked g count room old new (Number count)

@@ -40,6 +40,7 @@ fn layers(checked: Answer, d: usize) -> usize
 }
 
 // The table, if the map is in order and there is room for it and for as many records as there are: refusal 3.
+#[tactic(auto, using(crate::proofs::Outcomes::no_row))]
 fn settle(
     s: Sizes,
     checked: Answer,

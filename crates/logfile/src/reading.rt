@@ -6,6 +6,7 @@ ghost use Rattle.logfile.specs.declared.Stop.TheVariants.{Feed};
 use crate::{Entry, Read, Stop};
 
 // Does the byte part words?
+#[tactic(auto, unfolding(crate::specs::Log::blank))]
 fn blank(b: u8) -> bool
     ensures { result ≡ blank b }
 {

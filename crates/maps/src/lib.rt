@@ -79,6 +79,7 @@ fn first_bad(s: Sizes, cells: &[u8]) -> usize
 }
 
 // Refusals 1, 2 and 4.
+#[tactic(auto, using(mesh::proofs::Answers::sizes_of, mesh::proofs::Answers::map_1))]
 pub fn check_map(s: Sizes, cells: &[u8]) -> Answer
     ensures { result ≡ check_map s cells.now }
 {

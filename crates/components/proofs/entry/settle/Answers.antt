@@ -28,18 +28,6 @@ returns-then-table-nodes c =
     answered_refused a.s a.checked a.grid.now a.count a.room a.table.now NoRoom
     (rw (n.in_default.is, lt-leb (nodes a.s) (length a.table.now) (omega (arith, c.if-table-nodes.true, n.nodes.ensures.0))))
 
-pub returns-then-room-count : goal.returns-then-room-count
-returns-then-room-count c =
-    let n = c in
-    let a = n.args in
-    answered_refused a.s a.checked a.grid.now a.count a.room a.table.now NoRoom
-    (rw (
-      n.in_default.is,
-      le-leb (nodes a.s) (length a.table.now) (fits (goal.at.returns-then-room-count c).Else-table-nodes),
-      lt-leb a.count
-          a.room c.if-room-count.true,
-    ))
-
 pub copy_out-requires : goal.copy_out-requires
 copy_out-requires c =
     let t = c in
@@ -49,9 +37,8 @@ copy_out-requires c =
 pub returns : goal.returns
 returns c =
     let w = c in
-    let e = c in
     let t = c in
     let a = t.args in
     answered_granted a.s a.checked a.grid.now a.count a.room a.table.now w.copy_out.new.table
-    (rw (t.in_default.is, le-leb (nodes a.s) (length a.table.now) (fits (goal.at.returns c).Else-table-nodes), le-leb a.count a.room e.if-room-count.false))
+    (rw (t.in_default.is, le-leb (nodes a.s) (length a.table.now) (fits (goal.at.returns c).Else-table-nodes), le-leb a.count a.room (omega arith)))
     w.copy_out.ensures
