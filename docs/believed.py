@@ -12,7 +12,7 @@ def read(path):
 
 
 def used_by(path):
-    """The files of definitions that a file uses. Types that the code declares stand in its src/lib.rt, and its contracts in its code: of both the toolchain
+    """The files of definitions that a file uses. Types that the code declares stand in its src/, and its contracts in its code: of both the toolchain
     writes the pages."""
     for crate, module in re.findall(r'^(?:pub )?use Rattle\.(?!std\.)(\w+)\.specs\.(\w+)', read(path), re.M):
         if module not in ('declared', 'contracts'):

@@ -19,8 +19,7 @@ use Rattle.format.specs.Promise.{Bytes}
 use Rattle.format.specs.Entry.{read_answer, read_out, write_answer, write_out}
 use Rattle.format.proofs.Promise.{reads, writes}
 use Rattle.answers.specs.Fields.{node_fields, place_fields, step_fields, done_fields, counted_fields, verdict_fields, map_fields}
-use Rattle.answers.specs.Promises.{dk_number, dk_place, dk_step, dk_marks, dk_components, dk_verdict, dk_route, dk_reached}
-use Rattle.answers.specs.Promises.{dk_fresh, dk_sound, dk_outstanding, dk_hear, dk_read_map, dk_write_map}
+use Rattle.answers.specs.Promises.{dk_number, dk_place, dk_step, dk_marks, dk_components, dk_verdict, dk_route, dk_reached, dk_fresh, dk_sound, dk_outstanding, dk_hear, dk_read_map, dk_write_map}
 
 module _ (w h d : ℕ) where
   pub number_fields : (x y z : ℕ) → dk_number w h d x y z (node_fields (number_answer (sizes w h d) (place x y z)))

@@ -8,7 +8,7 @@ use lib.Dec.{T, eqb}
 use lib.ListN.{length}
 use Rattle.mesh.specs.Mesh.{sizes, in_range}
 use Rattle.mesh.specs.Cells.{Map, map_of}
-use Rattle.mesh.specs.Answers.{answer_no, numbered_no, numbered_bad, numbered_value}
+use Rattle.mesh.specs.Answers.{answer_no, answer_bad, numbered_value}
 use Rattle.mesh.specs.declared.Sizes.{Sizes}
 use Rattle.mesh.proofs.Tests.{T-and, T-no, T-eq, holds_true}
 use Rattle.mesh.proofs.Answers.{sizes_is}
@@ -108,10 +108,10 @@ module _ (w h d o : ℕ) where
 
     -- the call's answer is that of the definitions
     counted : (t : List ℕ) (a : CountedAnswer) → dk_outstanding w h d o t a → (n : ℕ)
-        → (numbered_no (outstanding_answer S o t) ≡ 0) × (numbered_value (outstanding_answer S o t) ≡ n) → (a.refusal ≡ 0) × (a.count ≡ n)
+        → (answer_no (outstanding_answer S o t) ≡ 0) × (numbered_value (outstanding_answer S o t) ≡ n) → (a.refusal ≡ 0) × (a.count ≡ n)
     counted t a c n (e, f) =
         let b = outstanding_answer S o t in
-        let (x, _, y) = outstanding_only S o t a.refusal (numbered_no b) a.bad (numbered_bad b) a.count (numbered_value b) c (outstanding_call S o t) in
+        let (x, _, y) = outstanding_only S o t a.refusal (answer_no b) a.bad (answer_bad b) a.count (numbered_value b) c (outstanding_call S o t) in
         (x ∙ e, y ∙ f)
 
     kept : (s : List ℕ) → Promise m o s → Talking w h d o cells s
@@ -120,7 +120,7 @@ module _ (w h d o : ℕ) where
       exact = λ cs t l a c. counted t a c _ (p.exact t (later l));
       settled = λ cs t l a c z.
           let b = outstanding_answer S o t in
-          let (x, _, y) = outstanding_only S o t a.refusal (numbered_no b) a.bad (numbered_bad b) a.count (numbered_value b) c (outstanding_call S o t) in
+          let (x, _, y) = outstanding_only S o t a.refusal (answer_no b) a.bad (answer_bad b) a.count (numbered_value b) c (outstanding_call S o t) in
           p.settled t (later l) ((p.exact t (later l)).0, sym y ∙ z);
       granted = λ cs t l more u q k j r a v c.
           let (x, _, _) = hear_only S o k j _ u a.refusal _ a.bad _ v _ c (hear_call S o k j _ u) in

@@ -1,16 +1,15 @@
-// What goes in and out at the boundary: sizes and places made from numbers, and the fields of each answer. include/dukthari.h declares the answers.
+// What goes in and out at the boundary: sizes and places made from numbers, and the fields of each answer. include/dukthari.h declares the answers:
+// C has no Result, so a number stands for the refusal, and 0 for none.
 #![tactic(auto)]
 
-ghost use Rattle.std.specs.Prelude.{◌≡◌};
+ghost use Rattle.std.specs.Prelude.{◌≡◌, Ok, Err};
 ghost use Rattle.mesh.specs.Mesh.{sizes, place};
 ghost use Rattle.mesh.specs.Answers.{refusal_bad, answer_bad};
-ghost use Rattle.mesh.specs.declared.Answer.TheVariants.{Refused};
-ghost use Rattle.mesh.specs.declared.Placed.TheVariants.{Found};
 ghost use Rattle.answers.specs.Fields.{Fits, node_fields, PlaceFits, PlacedFits, place_fields, done_fields, NumberedFits, counted_fields, VerdictFits, verdict_fields, MapFits, map_fields};
+ghost use Rattle.mesh.specs.declared.Refusal.{Refusal};
 
-use format::MapRead;
-use mesh::{Answer, Numbered, Place, Placed, Refusal, Sizes};
-use paths::Verdict;
+use mesh::{Place, Refusal, Sizes};
+use paths::Grant;
 
 #[repr(C)]
 #[derive(Clone, Copy)]
@@ -96,17 +95,17 @@ pub fn place_at(x: u32, y: u32, z: u32) -> Place
 }
 
 // The fields of a number.
-pub fn node_fields(a: Numbered) -> NodeAnswer
+pub fn node_fields(a: Result<usize, Refusal>) -> NodeAnswer
     requires { NumberedFits a }
     ensures { result ≡ node_fields a }
 {
     match a {
-        Numbered::Number(n) => {
+        Ok(n) => {
             let node = n as u32;
             NodeAnswer { refusal: 0, node }
         }
-        Numbered::NotNumbered(r) => NodeAnswer {
-            refusal: r.number(),
+        Err(r) => NodeAnswer {
+            refusal: u32::from(r),
             node: 0,
         },
     }
@@ -115,7 +114,7 @@ pub fn node_fields(a: Numbered) -> NodeAnswer
 // The coordinates of a place.
 pub fn coordinates(p: Place) -> PlaceAnswer
     requires { PlaceFits p }
-    ensures { result ≡ place_fields (Found p) }
+    ensures { result ≡ place_fields (Ok p) }
 {
     let x = p.x as u32;
     let y = p.y as u32;
@@ -129,14 +128,14 @@ pub fn coordinates(p: Place) -> PlaceAnswer
 }
 
 // The fields of a place.
-pub fn place_fields(a: Placed) -> PlaceAnswer
+pub fn place_fields(a: Result<Place, Refusal>) -> PlaceAnswer
     requires { PlacedFits a }
     ensures { result ≡ place_fields a }
 {
     match a {
-        Placed::Found(p) => coordinates(p),
-        Placed::NotPlaced(r) => PlaceAnswer {
-            refusal: r.number(),
+        Ok(p) => coordinates(p),
+        Err(r) => PlaceAnswer {
+            refusal: u32::from(r),
             x: 0,
             y: 0,
             z: 0,
@@ -147,9 +146,9 @@ pub fn place_fields(a: Placed) -> PlaceAnswer
 // The fields of a refusal: its number, and the first bad cell or 0.
 fn refused(r: Refusal) -> DoneAnswer
     requires { Fits (refusal_bad r) }
-    ensures { result ≡ done_fields (Refused r) }
+    ensures { result ≡ done_fields (Err r) }
 {
-    let refusal = r.number();
+    let refusal = u32::from(r);
     let Refusal::BadCell(k) = r else {
         return DoneAnswer { refusal, bad: 0 };
     };
@@ -158,23 +157,23 @@ fn refused(r: Refusal) -> DoneAnswer
 }
 
 // The fields of an answer without a value.
-pub fn done_fields(a: Answer) -> DoneAnswer
+pub fn done_fields(a: Result<(), Refusal>) -> DoneAnswer
     requires { Fits (answer_bad a) }
     ensures { result ≡ done_fields a }
 {
     match a {
-        Answer::Done => DoneAnswer { refusal: 0, bad: 0 },
-        Answer::Refused(r) => refused(r),
+        Ok(()) => DoneAnswer { refusal: 0, bad: 0 },
+        Err(r) => refused(r),
     }
 }
 
 // The fields of a count.
-pub fn counted_fields(a: Numbered) -> CountedAnswer
+pub fn counted_fields(a: Result<usize, Refusal>) -> CountedAnswer
     requires { NumberedFits a }
     ensures { result ≡ counted_fields a }
 {
     match a {
-        Numbered::Number(n) => {
+        Ok(n) => {
             let count = n as u32;
             CountedAnswer {
                 refusal: 0,
@@ -182,7 +181,7 @@ pub fn counted_fields(a: Numbered) -> CountedAnswer
                 count,
             }
         }
-        Numbered::NotNumbered(r) => {
+        Err(r) => {
             let a = refused(r);
             CountedAnswer {
                 refusal: a.refusal,
@@ -194,21 +193,18 @@ pub fn counted_fields(a: Numbered) -> CountedAnswer
 }
 
 // The fields of a verdict.
-pub fn verdict_fields(a: Verdict) -> VerdictAnswer
+pub fn verdict_fields(a: Result<Grant, Refusal>) -> VerdictAnswer
     requires { VerdictFits a }
     ensures { result ≡ verdict_fields a }
 {
     match a {
-        Verdict::Granted(n, offered) => {
-            let hops = n as u32;
-            VerdictAnswer {
-                refusal: 0,
-                bad: 0,
-                hops,
-                offered: offered as u32,
-            }
-        }
-        Verdict::NotGranted(r) => {
+        Ok(g) => VerdictAnswer {
+            refusal: 0,
+            bad: 0,
+            hops: g.hops as u32,
+            offered: g.offered as u32,
+        },
+        Err(r) => {
             let a = refused(r);
             VerdictAnswer {
                 refusal: a.refusal,
@@ -221,12 +217,12 @@ pub fn verdict_fields(a: Verdict) -> VerdictAnswer
 }
 
 // The fields of a map that was read.
-pub fn map_fields(a: MapRead) -> MapAnswer
+pub fn map_fields(a: Result<Sizes, Refusal>) -> MapAnswer
     requires { MapFits a }
     ensures { result ≡ map_fields a }
 {
     match a {
-        MapRead::Read(s) => {
+        Ok(s) => {
             let w = s.w as u32;
             let h = s.h as u32;
             let d = s.d as u32;
@@ -238,7 +234,7 @@ pub fn map_fields(a: MapRead) -> MapAnswer
                 d,
             }
         }
-        MapRead::NotRead(r) => {
+        Err(r) => {
             let a = refused(r);
             MapAnswer {
                 refusal: a.refusal,

@@ -1,15 +1,15 @@
 -- The audit of a log: the text for each of its lines, and the totals. Assumes nothing.
-use Rattle.std.specs.Prelude.{cond, List, [], ◌∷◌, ℕ, ◌+◌, ◌≤◌}
+use Rattle.std.specs.Prelude.{cond, List, [], ◌∷◌, ℕ, ◌+◌, ◌≤◌, Ok, Err, Result}
 use Rattle.mesh.specs.declared.Sizes.{Sizes}
 use Rattle.paths.specs.Entries.{verdict_answer}
-use Rattle.paths.specs.declared.Verdict.{Verdict}
-use Rattle.paths.specs.declared.Verdict.TheVariants.{Granted, NotGranted}
 use Rattle.text.specs.Text.{ascii, told}
 use Rattle.logfile.specs.Log.{lines_of, entry_of}
 use Rattle.transfers.specs.Transfer.{no_path, transfer_text}
 use Rattle.logfile.specs.declared.Entry.{Entry}
 use Rattle.logfile.specs.declared.Entry.TheVariants.{Nothing, Transfer, NoPair}
 use Rattle.audit.specs.declared.Totals.{Totals}
+use Rattle.mesh.specs.declared.Refusal.{Refusal}
+use Rattle.paths.specs.declared.Grant.{Grant}
 
 -- a line that is no pair of numbers is told with its number
 abbrev pub no_pair_text : ℕ → List ℕ
@@ -30,9 +30,9 @@ plus t g p r u = record {
   unread = t.unread + u;
 }
 
-abbrev pub judge : Totals → Verdict → Totals
-judge t (Granted h o) = plus t 1 0 0 0
-judge t (NotGranted r) = cond (no_path r) (plus t 0 1 0 0) (plus t 0 0 1 0)
+abbrev pub judge : Totals → Result Grant Refusal → Totals
+judge t (Ok g) = plus t 1 0 0 0
+judge t (Err r) = cond (no_path r) (plus t 0 1 0 0) (plus t 0 0 1 0)
 
 abbrev pub tally : Sizes → List ℕ → Totals → Entry → Totals
 tally S cells t Nothing = plus t 0 0 0 0

@@ -1,12 +1,13 @@
 // The totals of an audit.
 ghost use Rattle.std.specs.Prelude.{◌≡◌, ◌+◌, ◌≤◌, length};
-ghost use Rattle.text.specs.Text.{Said};
+ghost use Rattle.text.specs.Text.{Added};
 ghost use Rattle.audit.specs.Audit.{plus, judge, nothing_yet, totals_text, Few};
 ghost use Rattle.audit.specs.Room.{longest_log, totals_room};
 
 use crate::Totals;
-use paths::Verdict;
-use text::tell;
+use mesh::Refusal;
+use paths::Grant;
+use text::Page;
 
 impl Totals {
     // Before the first line.
@@ -23,51 +24,58 @@ impl Totals {
     }
 
     // One line more.
-    pub(crate) fn plus(
-        self,
-        granted: usize,
-        pathless: usize,
-        refused: usize,
-        unread: usize,
-    ) -> Totals
-        requires { Few self longest_log × (granted ≤ 1) × (pathless ≤ 1) × (refused ≤ 1) × (unread ≤ 1) }
-        ensures { result ≡ plus self granted pathless refused unread }
+    pub(crate) fn line(self) -> Totals
+        requires { Few self longest_log }
+        ensures { result ≡ plus self 0 0 0 0 }
     {
         Totals {
             lines: self.lines + 1,
-            granted: self.granted + granted,
-            pathless: self.pathless + pathless,
-            refused: self.refused + refused,
-            unread: self.unread + unread,
+            ..self
+        }
+    }
+
+    // One line more that is no pair of numbers.
+    pub(crate) fn no_pair(self) -> Totals
+        requires { Few self longest_log }
+        ensures { result ≡ plus self 0 0 0 1 }
+    {
+        let t = self.line();
+        Totals {
+            unread: t.unread + 1,
+            ..t
         }
     }
 
     // One transfer more.
-    pub(crate) fn judge(self, v: Verdict) -> Totals
+    pub(crate) fn judge(self, v: Result<Grant, Refusal>) -> Totals
         requires { Few self longest_log }
         ensures { result ≡ judge self v }
     {
+        let t = self.line();
         match v {
-            Verdict::Granted(_, _) => self.plus(1, 0, 0, 0),
-            Verdict::NotGranted(r) => {
-                if r.number() == 10 {
-                    return self.plus(0, 1, 0, 0);
-                }
-                self.plus(0, 0, 1, 0)
-            }
+            Ok(_) => Totals {
+                granted: t.granted + 1,
+                ..t
+            },
+            Err(Refusal::NoPath) => Totals {
+                pathless: t.pathless + 1,
+                ..t
+            },
+            Err(_) => Totals {
+                refused: t.refused + 1,
+                ..t
+            },
         }
     }
 }
 
 // The totals as text.
-pub(crate) fn tell_totals(t: Totals, out: &mut [u8]) -> usize
-    requires { totals_room ≤ length out.old }
-    ensures { Said out.old 0 (totals_text t) out.new result × (result ≤ totals_room) }
+pub(crate) fn tell_totals<const N: usize>(page: &mut Page<N>, t: Totals)
+    requires { length page.old + totals_room ≤ N }
+    ensures { Added page.old (totals_text t) totals_room page.new }
 {
-    tell(
+    page.tell(
         b"totals: lines %, granted %, refused for no path %, refused otherwise %, no pair of numbers %\n",
         &[t.lines, t.granted, t.pathless, t.refused, t.unread],
-        out,
-        0,
-    )
+    );
 }

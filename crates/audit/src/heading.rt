@@ -1,17 +1,18 @@
 // What stands above an audit: the mesh, how its nodes are numbered, and how to read a picture.
-ghost use Rattle.std.specs.Prelude.{◌≤◌, length};
-ghost use Rattle.text.specs.Text.{Said};
+ghost use Rattle.std.specs.Prelude.{◌+◌, ◌≤◌, length};
+ghost use Rattle.text.specs.Text.{Added};
 ghost use Rattle.audit.specs.Heading.{heading_text, top_text};
 ghost use Rattle.audit.specs.Room.{heading_room, top_room};
 
 use mesh::Sizes;
-use text::{say, tell};
+use text::Page;
 
-fn heading(s: Sizes, out: &mut [u8]) -> usize
-    requires { heading_room ≤ length out.old }
-    ensures { Said out.old 0 (heading_text s) out.new result × (result ≤ heading_room) }
+#[tactic(auto, unfolding(crate::specs::Heading::heading_form))]
+fn heading<const N: usize>(page: &mut Page<N>, s: Sizes)
+    requires { length page.old + heading_room ≤ N }
+    ensures { Added page.old (heading_text s) heading_room page.new }
 {
-    tell(
+    page.tell(
         b"mesh % x % x %; the node at (x, y, z) has the number x + % * (y + % * z)
 
 A direct route goes from neighbour to neighbour through nodes that can be used, and each step leads towards the end.
@@ -27,23 +28,16 @@ stays on the nodes marked o, and E is not one of them: no direct route exists.
 
 ",
         &[s.w, s.h, s.d, s.w, s.h],
-        out,
-        0,
-    )
+    );
 }
 
 // All that stands above the lines of the log, which may be too long.
-pub(crate) fn top(s: Sizes, long: bool, out: &mut [u8]) -> usize
-    requires { top_room ≤ length out.old }
-    ensures { Said out.old 0 (top_text s long) out.new result × (result ≤ top_room) }
+pub(crate) fn top<const N: usize>(page: &mut Page<N>, s: Sizes, long: bool)
+    requires { length page.old + top_room ≤ N }
+    ensures { Added page.old (top_text s long) top_room page.new }
 {
-    let next = heading(s, out);
+    heading(page, s);
     if long {
-        return say(
-            b"the log is longer than 65536 bytes: none of it was read\n",
-            out,
-            next,
-        );
+        page.say(b"the log is longer than 65536 bytes: none of it was read\n");
     }
-    next
 }

@@ -8,18 +8,11 @@ pub mod running;
 pub mod usage;
 
 // How many lines were read; of these, transfers granted, refused for want of a path, and refused otherwise; and lines that are no pair.
-#[derive(Clone, Copy)]
+#[derive(Clone, Copy, Debug, PartialEq, Eq)]
 pub struct Totals {
     pub lines: usize,
     pub granted: usize,
     pub pathless: usize,
     pub refused: usize,
     pub unread: usize,
-}
-
-// The totals with a line, and how many bytes its text takes.
-#[derive(Clone, Copy)]
-pub struct Audited {
-    pub totals: Totals,
-    pub used: usize,
 }

@@ -1,54 +1,46 @@
 // The little that is not proved: which bytes are read, and that the text of an audit is printed, here and line by line in `audit_log`.
-ghost use Rattle.std.specs.Prelude.{◌≡◌, length};
-ghost use Rattle.audit.specs.Room.{longest_log};
 
 use crate::auditing::audit_log;
 use crate::counting::tell_totals;
 use crate::heading::top;
-use format::MapRead;
 use mapfile::reader::read_map;
 use mesh::Sizes;
 use std::io::{Read, Result, Write};
-use text::running::{blank_file, print_front, read_front};
+use text::Page;
+use text::running::{blank_file, read_front};
 use transfers::say_refusal;
 
 // The longest log that is read.
 const LONGEST_LOG: usize = 65536;
 
-// The page for a map and a log, with room for such a log.
-fn print_audit<W: Write>(
-    s: Sizes,
-    cells: &[u8],
-    log: &[u8],
-    out: &mut [u8],
-    to: &mut W,
-) -> Result<()>
-    requires { longest_log ≡ length out.old }
-{
+// The page for a map and a log.
+fn print_audit<W: Write>(s: Sizes, cells: &[u8], log: &[u8], to: &mut W) -> Result<()> {
     let long = log.len() > LONGEST_LOG;
-    let n = top(s, long, out);
-    print_front(to, out, n)?;
+    let mut page = Page::<65536>::blank();
+    top(&mut page, s, long);
+    to.write_all(page.text())?;
     if long {
         return Ok(());
     }
-    let (t, printed) = audit_log(s, cells, log, out, to);
+    let (t, printed) = audit_log(s, cells, log, to);
     printed?;
-    let k = tell_totals(t, out);
-    print_front(to, out, k)
+    page.clear();
+    tell_totals(&mut page, t);
+    to.write_all(page.text())
 }
 
 // The page for a map file and a log.
 fn audit<W: Write>(map: &[u8], log: &[u8], to: &mut W) -> Result<()> {
     let mut cells = [0u8; 4096];
-    let mut space = [0u8; 65536];
     match read_map(map, &mut cells) {
-        MapRead::Read(s) => {
+        Ok(s) => {
             let n = s.nodes();
-            print_audit(s, &cells[..n], log, &mut space, to)
+            print_audit(s, &cells[..n], log, to)
         }
-        MapRead::NotRead(r) => {
-            let n = say_refusal(b"the map is refused, ", r, &mut space, 0);
-            print_front(to, &space, n)
+        Err(r) => {
+            let mut page = Page::<65536>::blank();
+            say_refusal(&mut page, b"the map is refused, ", r);
+            to.write_all(page.text())
         }
     }
 }

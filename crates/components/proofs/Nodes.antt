@@ -25,8 +25,7 @@ use Rattle.touching.specs.declared.Component.{Component}
 use Rattle.touching.proofs.Joined.{joined_trans, joined_sym, end_unsafe}
 use Rattle.touching.proofs.Records.{promise_only}
 use Rattle.touching.proofs.Counts.{sum_same, image, image_count}
-use Rattle.components.proofs.Spots.{at, place_at_lem, at_lt, at_eq, at_le, touching_beside, beside_touching, unsafe_node, unsafe_spot, safe_spot}
-use Rattle.components.proofs.Spots.{unseen_node, untouched}
+use Rattle.components.proofs.Spots.{at, place_at_lem, at_lt, at_eq, at_le, touching_beside, beside_touching, unsafe_node, unsafe_spot, safe_spot, unseen_node, untouched}
 
 module _ (S : Sizes) (r : InRange S) (marks g : List ℕ) (long : length marks ≡ nodes S) (is : (j : ℕ) → get_or g j 0 ≡ grid_at S marks j)
     (n : ℕ) (small : n < unseen) (h : List ℕ) (row : List Component) (L : Labelled g grid_size n h row) where

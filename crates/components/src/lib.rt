@@ -4,13 +4,4 @@
 pub mod entry;
 pub mod storing;
 
-use mesh::Numbered;
-use touching::Component;
-
-// The answer, and the records that are still to be stored: none on a refusal.
-#[derive(Clone, Copy)]
-pub struct Outcome {
-    pub answer: Numbered,
-    pub count: usize,
-    pub records: [Component; 1024],
-}
+pub use floods::Found;

@@ -1,14 +1,12 @@
 // The finished records go into the row that the caller lends.
-ghost use Rattle.std.specs.Prelude.{◌≡◌, ◌++◌, ◌≤◌, length, take, drop};
+ghost use Rattle.std.specs.Prelude.{◌≡◌, ◌++◌, ◌≤◌, length, drop};
 
 use touching::Component;
 
-// Stores the first n records.
-pub fn store(records: [Component; 1024], n: usize, row: &mut [Component])
-    requires { (n ≤ 1024) × (n ≤ length row.old) }
-    ensures { row.new ≡ take n records ++ drop n row.old }
+// Stores the records at the front of the row.
+pub fn store(records: &[Component], row: &mut [Component])
+    requires { length records.now ≤ length row.old }
+    ensures { row.new ≡ records.now ++ drop (length records.now) row.old }
 {
-    for i in 0..n {
-        row[i] = records[i];
-    }
+    row[..records.len()].copy_from_slice(records);
 }

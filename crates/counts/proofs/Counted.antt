@@ -7,9 +7,8 @@ use Rattle.mesh.specs.Tools.{count}
 use Rattle.mesh.specs.Mesh.{nodes, place_of}
 use Rattle.mesh.specs.Cells.{Map, map_of, faulty_cell, faulty}
 use Rattle.rules.specs.Marks.{Kind, useless, cant_reach, has, holds, mark_at, marks_of}
-use Rattle.mesh.specs.Answers.{check_map}
+use Rattle.mesh.specs.Answers.{check_map, accepted}
 use Rattle.mesh.specs.declared.Sizes.{Sizes}
-use Rattle.mesh.specs.declared.Answer.TheVariants.{Done}
 use Rattle.mesh.proofs.Numbers.{number_of, place_in}
 use Rattle.rules.proofs.Bytes.{mark_has}
 use Rattle.rules.proofs.Marks.{marks_length, marks_at}
@@ -39,7 +38,7 @@ pub cant_reach_counted : (m : Map) (o : ℕ) → with_bit (marks_of m o) 4 ≡ m
 unfolding has
 cant_reach_counted m o = has_counted m o cant_reach
 
-module _ (S : Sizes) (cells : List ℕ) (ordered : check_map S cells ≡ Done) where
+module _ (S : Sizes) (cells : List ℕ) (ordered : check_map S cells ≡ accepted) where
   pub faulty_counted : faulty_among cells ≡ faulty_count (map_of S cells)
   unfolding faulty_count
   faulty_counted =

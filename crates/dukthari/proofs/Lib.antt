@@ -1,4 +1,3 @@
 pub mod Small
-pub mod Groups
 pub mod Promises
 pub mod Tight

@@ -3,10 +3,8 @@
 use mathlib.Core.Path.{◌≡◌, sym, subst}
 use Rattle.mesh.specs.Mesh.{sizes}
 use Rattle.touching.specs.Entry.{components_table}
-use Rattle.answers.specs.Promises.{dk_number, dk_place, dk_step, dk_marks, dk_components, dk_verdict, dk_route, dk_reached}
-use Rattle.answers.specs.Promises.{dk_fresh, dk_sound, dk_outstanding, dk_hear, dk_read_map, dk_write_map}
-use Rattle.answers.proofs.Promises.{number_fields, place_fields_lem, step_fields_lem, marks_fields, components_fields, verdict_fields_lem, route_fields, reached_fields}
-use Rattle.answers.proofs.Promises.{fresh_fields, sound_fields, outstanding_fields, hear_fields, read_map_fields, write_map_fields}
+use Rattle.answers.specs.Promises.{dk_number, dk_place, dk_step, dk_marks, dk_components, dk_verdict, dk_route, dk_reached, dk_fresh, dk_sound, dk_outstanding, dk_hear, dk_read_map, dk_write_map}
+use Rattle.answers.proofs.Promises.{number_fields, place_fields_lem, step_fields_lem, marks_fields, components_fields, verdict_fields_lem, route_fields, reached_fields, fresh_fields, sound_fields, outstanding_fields, hear_fields, read_map_fields, write_map_fields}
 use Rattle.dukthari.specs.Tight.{Promised}
 use Rattle.dukthari.proofs.dk_number.Kinds as number-kinds
 use Rattle.dukthari.proofs.dk_number.Reads as number-reads

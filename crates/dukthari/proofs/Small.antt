@@ -11,8 +11,8 @@ use lib.ListN.{length, length-take}
 use Rattle.mesh.specs.Tools.{between, bit, sum, count}
 use Rattle.mesh.specs.Mesh.{InRange, Inside, in_range, inside, nodes, number, place_of}
 use Rattle.mesh.specs.Cells.{map_of, cell_at, may_end, bad_cell, first_bad, state_length}
-use Rattle.rules.specs.Marks.{is_word}
-use Rattle.mesh.specs.Answers.{refusal_bad, answer_bad, ◌and_then◌, unless, numbered, answer_value, check_sizes, check_cells, check_map, check_orientation, check_node, check_place, check_direction, check_room, number_answer, place_answer, step_answer}
+use Rattle.rules.specs.Marks.{is_word, marks_of}
+use Rattle.mesh.specs.Answers.{refusal_bad, answer_bad, ◌and_then◌, unless, answered, answer_value, check_sizes, check_cells, check_map, check_orientation, check_node, check_place, check_direction, check_room, number_answer, place_answer, step_answer, accepted, Answer}
 use Rattle.mesh.proofs.Answers.{split, ok_of, sizes_granted, place_granted, node_granted, map_granted}
 use Rattle.mesh.proofs.Granted.{place_inside, step_inside}
 use Rattle.mesh.proofs.Bits.{bit_le}
@@ -21,31 +21,27 @@ use Rattle.mesh.specs.declared.Sizes.{Sizes}
 use Rattle.mesh.specs.declared.Place.{Place}
 use Rattle.mesh.specs.declared.Refusal.{Refusal}
 use Rattle.mesh.specs.declared.Refusal.TheVariants.{BadSizes, BadLength, NoRoom, BadCell, BadNumber, Unsound, NoPair, NotHeld, FaultyEnd, NoPath, BadFile}
-use Rattle.mesh.specs.declared.Next.TheVariants.{At}
-use Rattle.mesh.specs.declared.Stepped.TheVariants.{Led}
-use Rattle.mesh.specs.declared.Answer.{Answer}
-use Rattle.mesh.specs.declared.Answer.TheVariants.{Done, Refused}
-use Rattle.rules.specs.Marks.{marks_of}
 use Rattle.rules.specs.Entry.{marks_answer}
 use Rattle.touching.specs.Components.{how_many}
 use Rattle.touching.specs.Entry.{components_check, components_answer}
 use Rattle.paths.specs.Differences.{hops}
 use Rattle.paths.specs.Paths.{leads}
 use Rattle.paths.specs.Offered.{offered, reached_at, reached_count}
-use Rattle.paths.specs.Entries.{judged, check_end, check_ends, verdict_check, verdict_answer, route_length, route_check, route_answer, reached_check, reached_answer}
+use Rattle.paths.specs.Entries.{grant, check_end, check_ends, verdict_check, verdict_answer, route_length, route_check, route_answer, reached_check, reached_answer}
 use Rattle.paths.proofs.Differences.{hops_le}
 use Rattle.format.specs.Format.{trailer_length, file_limit, distance, trailer_at, has_mark, sizes_in, distance_in, cells_in}
-use Rattle.format.specs.Entry.{map_read, check_frame, check_trailer, read_check, read_answer, write_check, write_answer}
+use Rattle.format.specs.Entry.{check_frame, check_trailer, read_check, read_answer, write_check, write_answer}
 use Rattle.talk.specs.State.{map_in, pair, says}
 use Rattle.talk.specs.Sound.{sound, within}
 use Rattle.talk.specs.Hear.{news, outstanding_on, outstanding}
 use Rattle.talk.specs.Entries.{check_state, fresh_answer, sound_answer, outstanding_answer, check_word, hear_answer}
 use Rattle.answers.specs.Fields.{Fits, PlaceFits, PlacedFits, NumberedFits, VerdictFits, MapFits}
+use Rattle.std.specs.Prelude.{Ok, Err, Some}
 
 -- a check passes on the bad cell of the first refusal
-pub bad_then : (n : ℕ) (a b : Answer) → answer_bad a ≤ n → (a ≡ Done → answer_bad b ≤ n) → answer_bad (a and_then b) ≤ n
-bad_then n Done b h k = k refl
-bad_then n (Refused r) b h k = h
+pub bad_then : (n : ℕ) (a b : Answer) → answer_bad a ≤ n → (a ≡ accepted → answer_bad b ≤ n) → answer_bad (a and_then b) ≤ n
+bad_then n (Ok _) b h k = k refl
+bad_then n (Err r) b h k = h
 
 -- and but for cells no check has one
 pub bad_unless : (n : ℕ) (t : Bool) (r : Refusal) → refusal_bad r ≡ 0 → answer_bad (unless t r) ≤ n
@@ -58,7 +54,7 @@ bad_and a t r e h = bad_then 65536 a (unless t r) h (λ _. bad_unless 65536 t r 
 pub bad_cells : (S : Sizes) (cells : List ℕ) (n : ℕ) → length cells ≤ n → answer_bad (check_cells S cells) ≤ n
 bad_cells S cells n h = go (ltb (first_bad (bad_cell S) cells) (length cells)) refl
   where
-    go : (t : Bool) → ltb (first_bad (bad_cell S) cells) (length cells) ≡ t → answer_bad (cond t (Refused (BadCell (first_bad (bad_cell S) cells))) Done) ≤ n
+    go : (t : Bool) → ltb (first_bad (bad_cell S) cells) (length cells) ≡ t → answer_bad (cond t (Err (BadCell (first_bad (bad_cell S) cells))) accepted) ≤ n
     go true e = let l = ltb-true (first_bad (bad_cell S) cells) (length cells) e in omega arith
     go false e = omega arith
 
@@ -78,9 +74,9 @@ inside_fits : (S : Sizes) (p : Place) → InRange S × Inside S p → PlaceFits 
 inside_fits S p (r, i) = (omega arith, omega arith, omega arith)
 
 -- a number that is granted is small, a refusal's bad cell too
-pub numbered_fits : (a : Answer) (n : ℕ) → answer_bad a ≤ 65536 → (a ≡ Done → n ≤ 65536) → NumberedFits (numbered a n)
-numbered_fits Done n h k = let e = k refl in (omega arith, omega arith)
-numbered_fits (Refused r) n h k = (omega arith, omega arith)
+pub numbered_fits : (a : Answer) (n : ℕ) → answer_bad a ≤ 65536 → (a ≡ accepted → n ≤ 65536) → NumberedFits (answered a n)
+numbered_fits (Ok _) n h k = let e = k refl in (omega arith, omega arith)
+numbered_fits (Err r) n h k = (omega arith, omega arith)
 
 -- a sum of small numbers is small
 sum_le : (n b : ℕ) (f : ℕ → ℕ) → ((k : ℕ) → f k ≤ b) → sum n f ≤ b * n
@@ -102,7 +98,7 @@ number_fits S p =
 pub place_fits : (S : Sizes) (k : ℕ) → PlacedFits (place_answer S k)
 place_fits S k p e = inside_fits S p (place_inside S k p e)
 
-pub step_fits : (S : Sizes) (p : Place) (j : ℕ) (q : Place) → step_answer S p j ≡ Led (At q) → PlaceFits q
+pub step_fits : (S : Sizes) (p : Place) (j : ℕ) (q : Place) → step_answer S p j ≡ Ok (Some q) → PlaceFits q
 step_fits S p j q e = inside_fits S q (step_inside S p j q e)
 
 -- ---- the calls on maps
@@ -157,7 +153,7 @@ read_fits file room =
     let far = unless (eqb (distance_in file) (distance S) && leb (distance S) (length file)) BadFile in
     let frame = check_frame file in
     let fits = check_room (nodes S) room in
-    let sized : check_trailer file ≡ Done → InRange S = λ e. sizes_granted S (split frame (check_sizes S) (split (frame and_then check_sizes S) far e).0).1 in
+    let sized : check_trailer file ≡ accepted → InRange S = λ e. sizes_granted S (split frame (check_sizes S) (split (frame and_then check_sizes S) far e).0).1 in
     let short : InRange S → length (cells_in file) ≤ 65536 = λ r. simp length-take (omega (arith, nodes_le S r)) in
     made (check_trailer file and_then fits and_then check_cells S (cells_in file)) S
     (bad_then 65536 (check_trailer file and_then fits) (check_cells S (cells_in file))
@@ -165,14 +161,14 @@ read_fits file room =
     (λ e. bad_cells S (cells_in file) 65536 (short (sized (split (check_trailer file) fits e).0))))
     (λ e. sized (split (check_trailer file) fits (split (check_trailer file and_then fits) (check_cells S (cells_in file)) e).0).0)
   where
-    made : (a : Answer) (S : Sizes) → answer_bad a ≤ 65536 → (a ≡ Done → InRange S) → MapFits (map_read a S)
-    made Done S h k = let i = k refl in (omega arith, omega (arith, i.w_hi), omega (arith, i.h_hi), omega (arith, i.d_hi))
-    made (Refused r) S h k = (omega arith, omega arith, omega arith, omega arith)
+    made : (a : Answer) (S : Sizes) → answer_bad a ≤ 65536 → (a ≡ accepted → InRange S) → MapFits (answered a S)
+    made (Ok _) S h k = let i = k refl in (omega arith, omega (arith, i.w_hi), omega (arith, i.h_hi), omega (arith, i.d_hi))
+    made (Err r) S h k = (omega arith, omega arith, omega arith, omega arith)
 
 -- the bad cell that a check of two ends may name fits, and where the ends are granted the hops between them do
 ends_small : (S : Sizes) (cells : List ℕ) (s e : ℕ)
     → (answer_bad (check_ends S cells s e) ≤ 65536)
-    × (check_ends S cells s e ≡ Done → InRange S × (hops (place_of S s) (place_of S e) ≤ 45))
+    × (check_ends S cells s e ≡ accepted → InRange S × (hops (place_of S s) (place_of S e) ≤ 45))
 unfolding check_ends
 ends_small S cells s e =
     let m = map_of S cells in
@@ -194,7 +190,7 @@ ends_small S cells s e =
 
 -- a verdict's bad cell fits, and where it is granted the hops do
 verdict_small : (S : Sizes) (cells : List ℕ) (s e : ℕ)
-    → (answer_bad (verdict_check S cells s e) ≤ 65536) × (verdict_check S cells s e ≡ Done → hops (place_of S s) (place_of S e) ≤ 45)
+    → (answer_bad (verdict_check S cells s e) ≤ 65536) × (verdict_check S cells s e ≡ accepted → hops (place_of S s) (place_of S e) ≤ 45)
 unfolding verdict_check
 verdict_small S cells s e =
     let (b, k) = ends_small S cells s e in
@@ -208,9 +204,9 @@ verdict_fits S cells s e =
     let (b, k) = verdict_small S cells s e in
     made (verdict_check S cells s e) (hops (place_of S s) (place_of S e)) (offered (map_of S cells) (place_of S e) (place_of S s)) b (λ g. omega (arith, k g))
   where
-    made : (a : Answer) (h o : ℕ) → answer_bad a ≤ 65536 → (a ≡ Done → h ≤ 65536) → VerdictFits (judged a h o)
-    made Done h o b k = let e = k refl in (omega arith, omega arith)
-    made (Refused r) h o b k = (omega arith, omega arith)
+    made : (a : Answer) (h o : ℕ) → answer_bad a ≤ 65536 → (a ≡ accepted → h ≤ 65536) → VerdictFits (answered a (grant h o))
+    made (Ok _) h o b k = let e = k refl in (omega arith, omega arith)
+    made (Err r) h o b k = (omega arith, omega arith)
 
 pub route_fits : (S : Sizes) (cells : List ℕ) (s e room : ℕ) → NumberedFits (route_answer S cells s e room)
 unfolding route_answer route_check

@@ -9,26 +9,16 @@ ghost use Rattle.touching.specs.Entry.{components_answer, components_table, comp
 ghost use Rattle.paths.specs.Entries.{verdict_answer, route_answer, route_out, reached_answer, reached_out};
 ghost use Rattle.answers.specs.Fields.{node_fields, place_fields, step_fields, done_fields, counted_fields, verdict_fields};
 
-use crate::grouping::compute;
 use answers::{
     CountedAnswer, DoneAnswer, NodeAnswer, PlaceAnswer, StepAnswer, VerdictAnswer, coordinates,
     counted_fields, done_fields, node_fields, place_at, place_fields, sizes_of, verdict_fields,
 };
+use components::Found;
 use components::storing::store;
-use mesh::{Next, Stepped};
 use touching::Component;
 
 pub mod files;
-mod grouping;
 pub mod state_calls;
-
-// The fields of the answer for components, and the records that are still to be stored: none on a refusal.
-#[derive(Clone, Copy)]
-pub struct Grouped {
-    pub answer: CountedAnswer,
-    pub count: usize,
-    pub records: [Component; 1024],
-}
 
 // The number of a place. Refusals: 1, 5.
 #[unsafe(no_mangle)]
@@ -41,6 +31,7 @@ pub extern "C" fn dk_number(w: u32, h: u32, d: u32, x: u32, y: u32, z: u32) -> N
 
 // The place of a node. Refusals: 1, 5.
 #[unsafe(no_mangle)]
+#[tactic(auto, using(crate::proofs::Small::place_fits))]
 pub extern "C" fn dk_place(w: u32, h: u32, d: u32, node: u32) -> PlaceAnswer
     ensures { result ≡ place_fields (place_answer (sizes w h d) node) }
 {
@@ -48,8 +39,17 @@ pub extern "C" fn dk_place(w: u32, h: u32, d: u32, node: u32) -> PlaceAnswer
     place_fields(a)
 }
 
+// The coordinates where there is no place.
+const NOWHERE: PlaceAnswer = PlaceAnswer {
+    refusal: 0,
+    x: 0,
+    y: 0,
+    z: 0,
+};
+
 // A step from a place. Refusals: 1, 5. Its fields are made here: returned by a function, they took a fifth more instructions.
 #[unsafe(no_mangle)]
+#[tactic(auto, using(crate::proofs::Small::step_fits))]
 pub extern "C" fn dk_step(
     w: u32,
     h: u32,
@@ -62,40 +62,23 @@ pub extern "C" fn dk_step(
     ensures { result ≡ step_fields (step_answer (sizes w h d) (place x y z) direction) }
 {
     let a = mesh::entries::step_from(sizes_of(w, h, d), place_at(x, y, z), direction as usize);
-    match a {
-        Stepped::Led(n) => match n {
-            Next::At(q) => {
-                let p = coordinates(q);
-                return StepAnswer {
-                    refusal: 0,
-                    there: 1,
-                    x: p.x,
-                    y: p.y,
-                    z: p.z,
-                };
-            }
-            Next::Edge => {
-                return StepAnswer {
-                    refusal: 0,
-                    there: 0,
-                    x: 0,
-                    y: 0,
-                    z: 0,
-                };
-            }
-        },
-        Stepped::NotStepped(r) => StepAnswer {
-            refusal: r.number(),
-            there: 0,
-            x: 0,
-            y: 0,
-            z: 0,
-        },
+    let (refusal, there, p) = match a {
+        Ok(Some(q)) => (0, 1, coordinates(q)),
+        Ok(None) => (0, 0, NOWHERE),
+        Err(r) => (u32::from(r), 0, NOWHERE),
+    };
+    StepAnswer {
+        refusal,
+        there,
+        x: p.x,
+        y: p.y,
+        z: p.z,
     }
 }
 
 // The mark bytes of a map in an orientation. Refusals: 1, 2, 4, 5, 3.
 #[unsafe(no_mangle)]
+#[tactic(auto, using(crate::proofs::Small::marks_fits))]
 pub extern "C" fn dk_marks(
     w: u32,
     h: u32,
@@ -126,9 +109,17 @@ pub extern "C" fn dk_components(
         × (table.new ≡ components_table (sizes w h d) cells.now orientation table.old row.old)
         × (row.new ≡ components_row (sizes w h d) cells.now orientation table.old row.old) }
 {
-    let found = compute(w, h, d, orientation, cells, table, row.len());
-    store(found.records, found.count, row);
-    found.answer
+    let mut found = Found::none();
+    let a = components::entry::compute(
+        sizes_of(w, h, d),
+        cells,
+        orientation as usize,
+        table,
+        row.len(),
+        &mut found,
+    );
+    store(found.as_slice(), row);
+    counted_fields(a)
 }
 
 // The hops and the offered set at the start. Refusals: 1, 2, 4, 5, 9, 10.

@@ -8,6 +8,7 @@ use answers::{CountedAnswer, DoneAnswer, counted_fields, done_fields, sizes_of};
 
 // A fresh state of a map. Refusals: 1, 2, 4, 5.
 #[unsafe(no_mangle)]
+#[tactic(auto, using(crate::proofs::Small::fresh_fits))]
 pub extern "C" fn dk_fresh(
     w: u32,
     h: u32,
@@ -25,6 +26,7 @@ pub extern "C" fn dk_fresh(
 
 // Is the state sound? Refusals: 1, 2, 5, 6.
 #[unsafe(no_mangle)]
+#[tactic(auto, using(crate::proofs::Small::sound_fits))]
 pub extern "C" fn dk_sound(w: u32, h: u32, d: u32, orientation: u32, state: &[u8]) -> DoneAnswer
     ensures { result ≡ done_fields (sound_answer (sizes w h d) orientation state.now) }
 {
@@ -49,6 +51,7 @@ pub extern "C" fn dk_outstanding(
 
 // The listener hears a word from a direction. Refusals: 1, 2, 5, 6, 7, 8.
 #[unsafe(no_mangle)]
+#[tactic(auto, using(crate::proofs::Small::hear_fits))]
 pub extern "C" fn dk_hear(
     w: u32,
     h: u32,

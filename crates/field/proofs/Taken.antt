@@ -14,13 +14,10 @@ use Rattle.mesh.specs.Mesh.{InRange, nodes, place_of}
 use Rattle.mesh.specs.Steps.{next, neighbour}
 use Rattle.mesh.specs.Cells.{Map, wall}
 use Rattle.rules.specs.Marks.{has, byte_of, is_word}
-use Rattle.mesh.specs.Answers.{◌and_then◌, unless, check_orientation, check_node, check_direction}
+use Rattle.mesh.specs.Answers.{◌and_then◌, unless, check_orientation, check_node, check_direction, accepted}
 use Rattle.mesh.specs.declared.Sizes.{Sizes}
-use Rattle.mesh.specs.declared.Next.{Next}
-use Rattle.mesh.specs.declared.Next.TheVariants.{At, Edge}
 use Rattle.mesh.specs.declared.Refusal.{Refusal}
 use Rattle.mesh.specs.declared.Refusal.TheVariants.{Unsound, NoPair, NotHeld}
-use Rattle.mesh.specs.declared.Answer.TheVariants.{Done}
 use Rattle.mesh.proofs.Tests.{tried, holds_true}
 use Rattle.mesh.proofs.Answers.{sizes_of, split, orientation_granted}
 use Rattle.rules.proofs.Bytes.{word_cases}
@@ -36,18 +33,20 @@ use Rattle.talk.proofs.Hear.{added_word}
 use Rattle.talk.proofs.Calls.{state_passed, numbers_passed, hear_passed}
 use Rattle.states.proofs.Fitting.{fits_word}
 use Rattle.states.proofs.Heard.{word_heard, quick_is}
+use Rattle.std.specs.Prelude.{Some, None, Option}
+use Rattle.mesh.specs.declared.Place.{Place}
 
 -- ---- the checks
 
-ready : (S : Sizes) (s : List ℕ) → check_state S (length s) ≡ Done → Ready S s
+ready : (S : Sizes) (s : List ℕ) → check_state S (length s) ≡ accepted → Ready S s
 ready S s e = let (t, l) = (state_passed S (length s)).0 e in record { sized = sizes_of S ((holds_true _).0 t); long = l }
 
 -- past the checks of a question
-pub question_ready : (S : Sizes) (s : List ℕ) (o : ℕ) → check_state S (length s) and_then check_orientation o ≡ Done → Ready S s × (o ≤ 7)
+pub question_ready : (S : Sizes) (s : List ℕ) (o : ℕ) → check_state S (length s) and_then check_orientation o ≡ accepted → Ready S s × (o ≤ 7)
 question_ready S s o e =
     let (f, g) = split (check_state S (length s)) (check_orientation o) e in (ready S s f, orientation_granted o g)
 
-pub state_sized : (S : Sizes) (n : ℕ) → check_state S n ≡ Done → InRange S
+pub state_sized : (S : Sizes) (n : ℕ) → check_state S n ≡ accepted → InRange S
 state_sized S n e = sizes_of S ((holds_true _).0 ((state_passed S n).0 e).0)
 
 -- the numbers of a call of hear are as they should be
@@ -59,7 +58,7 @@ pub record Numbers (S : Sizes) (s : List ℕ) (o k j w : ℕ) : Type 0 where
   pub word : T (is_word w)
 
 pub numbers : (S : Sizes) (s : List ℕ) (o k j w : ℕ)
-    → check_state S (length s) and_then check_orientation o and_then check_node S k and_then check_direction j and_then check_word w ≡ Done
+    → check_state S (length s) and_then check_orientation o and_then check_node S k and_then check_direction j and_then check_word w ≡ accepted
     → Numbers S s o k j w
 numbers S s o k j w e =
     let (((((t, l), ho), hk), hj), hw) = (numbers_passed S (length s) o k j w).0 e in
@@ -112,14 +111,14 @@ pub heard_byte : (m : Map) (o : ℕ) (s : List ℕ) → SoundOn m o s → (k j :
 unfolding is_heard is_own is_word
 heard_byte m o s z k j l w h = go (next m.sizes (place_of m.sizes k) j) refl
   where
-    go : (n : Next) → next m.sizes (place_of m.sizes k) j ≡ n → T (is_heard (heard s k j))
-    go Edge e = rw (z.edge k j l w h e) tt
-    go (At q) e = elim (tried (wall m (place_of m.sizes k) j q)) [
+    go : (n : Option Place) → next m.sizes (place_of m.sizes k) j ≡ n → T (is_heard (heard s k j))
+    go None e = rw (z.edge k j l w h e) tt
+    go (Some q) e = elim (tried (wall m (place_of m.sizes k) j q)) [
       | inl b ↦ rw (z.walled k j q l w e b) tt
       | inr f ↦ word_heard (heard s k j) (z.words k j (talks_pair m k j (record { lt = l; works_k = w; speaker = q; there = e; free = f }))).0
     ]
 
-module _ (S : Sizes) (o k j w : ℕ) (s : List ℕ) (e : hear_answer S o k j w s ≡ Done) where
+module _ (S : Sizes) (o k j w : ℕ) (s : List ℕ) (e : hear_answer S o k j w s ≡ accepted) where
   pub hear_numbers : Numbers S s o k j w
   hear_numbers =
       let ((((((((t, l), ho), hk), hj), hw), _), _), _) = (hear_passed S o k j w s).0 e in

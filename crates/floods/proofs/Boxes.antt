@@ -4,16 +4,17 @@ use mathlib.Core.Logic.{inl, inr}
 use mathlib.Core.List.{List}
 use Prim.Native.Nat.{ℕ, ◌+◌, min, max}
 use native.Mathlib.Omega.{arith}
-use native.Mathlib.Numerals.{add-one}
-use native.Mathlib.Nat.{eq-or-lt_of_le, le_of_suc-le-suc, min-eq_left, min-eq_right, max-eq_left, max-eq_right}
+use native.Mathlib.Nat.{min-eq_left, min-eq_right, max-eq_left, max-eq_right}
 use lib.Dec.{leb, leb→le, nleb→lt}
-use lib.ListN.{get_or}
+use lib.ListN.{get_or, take}
+use lib.Seq.{get_or-take}
 use Rattle.mesh.specs.Mesh.{Axis, X, Y, Z, on}
 use Rattle.mesh.proofs.Tests.{tried}
 use Rattle.mesh.specs.declared.Place.{Place}
 use Rattle.grids.specs.Grid.{place_at}
 use Rattle.touching.specs.Components.{least_of, greatest_of}
-use Rattle.floods.specs.Label.{alone, widen, Ranged}
+use Rattle.floods.specs.Label.{widen, Ranged}
+use Rattle.floods.proofs.Steps.{last_or_below}
 use Rattle.touching.specs.declared.Component.{Component}
 
 module _ (q : List ℕ) (axis : Axis) where
@@ -31,7 +32,7 @@ module _ (q : List ℕ) (axis : Axis) where
   ranged_more : (n lo hi v : ℕ) → at n ≡ v → Ranged q n axis lo hi → Ranged q (n + 1) axis (min lo v) (max hi v)
   ranged_more n lo hi v e r =
       record {
-        within = λ t h. elim (eq-or-lt_of_le (le_of_suc-le-suc (rw add-one at h))) [
+        within = λ t h. elim (last_or_below t n h) [
           | inl w ↦ rw (w, e) (omega arith, omega arith)
           | inr w ↦ let (a, b) = r.within t w in (omega arith, omega arith)
         ];
@@ -50,12 +51,16 @@ abbrev pub Boxed : List ℕ → ℕ → Component → Type 0
 Boxed q n c = (a : Axis) → Ranged q n a (least_of c a) (greatest_of c a)
 
 module _ (q : List ℕ) (p : Place) where
-  pub boxed_one : (n : ℕ) → p ≡ place_at (get_or q 0 0) → Boxed q 1 (alone p n)
-  boxed_one n e X = ranged_one q X p.x (ap (λ (r : Place). r.x) (sym e))
-  boxed_one n e Y = ranged_one q Y p.y (ap (λ (r : Place). r.y) (sym e))
-  boxed_one n e Z = ranged_one q Z p.z (ap (λ (r : Place). r.z) (sym e))
-
   pub boxed_more : (n : ℕ) (c : Component) → p ≡ place_at (get_or q n 0) → Boxed q n c → Boxed q (n + 1) (widen c p)
   boxed_more n c e r X = ranged_more q X n c.x0 c.x1 p.x (ap (λ (r : Place). r.x) (sym e)) (r X)
   boxed_more n c e r Y = ranged_more q Y n c.y0 c.y1 p.y (ap (λ (r : Place). r.y) (sym e)) (r Y)
   boxed_more n c e r Z = ranged_more q Z n c.z0 c.z1 p.z (ap (λ (r : Place). r.z) (sym e)) (r Z)
+
+-- a list's first n numbers are boxed as it is
+pub boxed_front : (q : List ℕ) (n : ℕ) (c : Component) → Boxed (take n q) n c → Boxed q n c
+boxed_front q n c b a =
+    record {
+      within = λ t h. rw (get_or-take n q t 0 h) at ((b a).within t h);
+      at_lo = let (t, h, e) = (b a).at_lo in (t, h, rw (get_or-take n q t 0 h) at e);
+      at_hi = let (t, h, e) = (b a).at_hi in (t, h, rw (get_or-take n q t 0 h) at e);
+    }

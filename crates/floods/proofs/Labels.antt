@@ -4,7 +4,6 @@ use mathlib.Core.Logic.{◌⊎◌, inl, inr}
 use mathlib.Core.List.{List}
 use Prim.Native.Nat.{ℕ, suc, ◌+◌, ◌≤◌, ◌<◌}
 use native.Mathlib.Omega.{arith}
-use native.Mathlib.Numerals.{add-one}
 use native.Mathlib.Nat.{eq-or-lt_of_le, le_of_suc-le-suc}
 use lib.Dec.{eqb, ltb, ltb→lt, nltb→le}
 use lib.ListN.{length, get_or, set}
@@ -15,25 +14,12 @@ use Rattle.mesh.proofs.Tests.{T-eq, bool_ext, tried}
 use Rattle.grids.specs.Grid.{grid_size, unseen, Spot, Beside}
 use Rattle.floods.specs.Flood.{Linked, here, onward, how_often, Flooded}
 use Rattle.touching.specs.Components.{least_of, greatest_of}
-use Rattle.floods.specs.Label.{no_records, Ranged, Spans, Recorded, Untouched, Labelled}
+use Rattle.floods.specs.Label.{Ranged, Spans, Recorded, Untouched, Labelled}
 use Rattle.touching.specs.declared.Component.{Component}
 use Rattle.grids.proofs.Around.{beside_sym}
 use Rattle.touching.proofs.Counts.{sum_same, same_or_not}
+use Rattle.floods.proofs.Steps.{last_or_below}
 use Rattle.floods.proofs.Boxes.{Boxed}
-
--- nothing is numbered yet
-pub label_none : (g : List ℕ) (row : List Component) → length g ≡ grid_size → Untouched g → row ≡ no_records → Labelled g 307 0 g row
-label_none g row s un e =
-    record {
-      size = s;
-      kept = λ j. inl refl;
-      passed = λ j h e. elim (un j) [ inl z ↦ omega arith | inr w ↦ omega (arith, w.1.inner) ];
-      closed = λ i j lo hi. absurd (omega arith);
-      linked = λ i h. absurd (omega arith);
-      rising = λ i l j h k. absurd (omega arith);
-      recorded = λ i c h. absurd (omega arith);
-      no_more = λ i c _. ap (λ (r : List Component). get_or r i c) e;
-    }
 
 module _ (g : List ℕ) (k n : ℕ) (h : List ℕ) (row : List Component) (L : Labelled g k n h row) where
   -- places that are not unseen are passed
@@ -90,7 +76,7 @@ module _ (g : List ℕ) (k n : ℕ) (h : List ℕ) (row : List Component) (L : L
       ]
 
       more_passed : (j : ℕ) → j < k + 1 → get_or h' j 0 ≡ unseen → ⊥
-      more_passed j l u = elim (eq-or-lt_of_le (le_of_suc-le-suc (rw add-one at l))) [
+      more_passed j l u = elim (last_or_below j k l) [
         | inl e ↦ omega (arith, F.start, ap (λ (i : ℕ). get_or h' i 0) e)
         | inr w ↦ L.passed j w (unseen_then j u)
       ]

@@ -1,3 +1,4 @@
+pub mod Steps
 pub mod Parts
 pub mod Boxes
 pub mod Labels

@@ -5,7 +5,6 @@ use mathlib.Core.List.{List}
 use Prim.Native.Nat.{ℕ, suc, ◌+◌, ◌≤◌, ◌<◌}
 use native.Mathlib.Omega.{arith}
 use native.Mathlib.Numerals.{add-one}
-use native.Mathlib.Nat.{eq-or-lt_of_le, le_of_suc-le-suc}
 use lib.Dec.{eqb}
 use lib.ListN.{length, get_or, set, length-set}
 use lib.Seq.{get_or-set_same, get_or-set_other}
@@ -13,6 +12,7 @@ use borrow.Author.Tests.{eq-eqb, ne_eqb}
 use Rattle.mesh.specs.Tools.{bit, count}
 use Rattle.mesh.proofs.Tables.{sum_zero}
 use Rattle.grids.specs.Grid.{grid_size, unseen, around, Beside}
+use Rattle.floods.proofs.Steps.{last_or_below}
 use Rattle.floods.specs.Flood.{Linked, here, onward, how_often, Sized, Visited, entered, passed, Part, Spread, Flooded}
 use Rattle.touching.proofs.Counts.{same_or_not, sum_raise, count_le}
 
@@ -73,7 +73,7 @@ module _ (g q : List ℕ) (tail at m : ℕ) (s : Sized g q) (l : at < grid_size)
       }
     where
       lower : (t : ℕ) → t < tail + 1 → (t ≡ tail → ⊥) → t < tail
-      lower t h n = elim (eq-or-lt_of_le (le_of_suc-le-suc (rw add-one at h))) [ inl w ↦ absurd (n w) | inr w ↦ w ]
+      lower t h n = elim (last_or_below t tail h) [ inl w ↦ absurd (n w) | inr w ↦ w ]
 
       older : (t : ℕ) → (get_or g₀ (get_or q t 0) 0 ≡ unseen) × (get_or g (get_or q t 0) 0 ≡ m) × Linked g₀ a (get_or q t 0)
           → (get_or g₀ (get_or q t 0) 0 ≡ unseen) × (get_or (set g at m) (get_or q t 0) 0 ≡ m) × Linked g₀ a (get_or q t 0)
@@ -88,17 +88,6 @@ unseen_before p small j e = elim (p.kept j) [ inl h ↦ sym h ∙ e | inr h ↦ 
 
 -- ---- the places around one
 
-pub spread_none : (g q : List ℕ) (tail from m : ℕ) → how_often g m ≡ tail → Spread g q tail from m 0 g q tail
-spread_none g q tail from m e =
-    record {
-      grows = λ g₀ a p k. p;
-      longer = omega arith;
-      counted = e;
-      first = λ t h. refl;
-      fewer = λ j h. h;
-      none_left = λ k j l. absurd (omega arith);
-    }
-
 module _ {g q g₁ q₁ : List ℕ} {tail from m o end at : ℕ} (s : Sized g₁ q₁) (small : m < unseen) (l : at < grid_size) (b : o < 18)
     (e : at + 307 ≡ from + get_or around o 0) (p : Spread g q tail from m o g₁ q₁ end) where
   -- an unseen place leaves room in the queue
@@ -108,7 +97,7 @@ module _ {g q g₁ q₁ : List ℕ} {tail from m o end at : ℕ} (s : Sized g₁
       omega (arith, s.grid, length-set g₁ at m, often_le (set g₁ at m) m, p.counted)
 
   earlier_or_here : (k j : ℕ) → k < o + 1 → j + 307 ≡ from + get_or around k 0 → (k < o) ⊎ (j ≡ at)
-  earlier_or_here k j lt f = elim (eq-or-lt_of_le (le_of_suc-le-suc (rw add-one at lt))) [
+  earlier_or_here k j lt f = elim (last_or_below k o lt) [
     | inl w ↦ inr (omega (arith, ap (λ (i : ℕ). get_or around i 0) w))
     | inr w ↦ inl w
   ]
@@ -176,7 +165,7 @@ module _ {h r g q : List ℕ} {a m end tail head : ℕ} (d : Drained h r a m end
         grows = λ g₁ p₁. w.grows g₁ a (d.grows g₁ p₁) ((d.grows g₁ p₁).each head l).2;
         counted = w.counted;
         behind = omega (arith, w.longer);
-        closed = λ t j lt b u. elim (eq-or-lt_of_le (le_of_suc-le-suc (rw add-one at lt))) [
+        closed = λ t j lt b u. elim (last_or_below t head lt) [
           | inl e ↦ let (o, k, f) = rw (e, w.first head l) at b in w.none_left o j k f u
           | inr k ↦ d.closed t j k (rw (w.first t (omega arith)) at b) (w.fewer j u)
         ];

@@ -10,7 +10,7 @@ use lib.Dec.{T, ltb}
 use lib.ListN.{get_or, drop, replicate}
 use Rattle.mesh.specs.Mesh.{sizes, in_range}
 use Rattle.mesh.specs.Cells.{bad_cell, first_bad}
-use Rattle.mesh.specs.Answers.{check_map, numbered_no}
+use Rattle.mesh.specs.Answers.{check_map, answer_no}
 use Rattle.mesh.specs.declared.Sizes.{Sizes}
 use Rattle.mesh.proofs.Tests.{T-and, T-lt}
 use Rattle.format.specs.Format.{trailer, file_of, MapFile}
@@ -34,11 +34,11 @@ more = 0 ∷ 0 ∷ 0 ∷ 0 ∷ 0 ∷ 0 ∷ []
 abbrev room : List ℕ
 room = replicate 20 0
 
-flat_granted : numbered_no (write_answer flat few 20) ≡ 0
+flat_granted : answer_no (write_answer flat few 20) ≡ 0
 unfolding write_answer write_check check_map in_range bad_cell first_bad
 flat_granted = refl
 
-long_granted : numbered_no (write_answer long more 20) ≡ 0
+long_granted : answer_no (write_answer long more 20) ≡ 0
 unfolding write_answer write_check check_map in_range bad_cell first_bad
 long_granted = refl
 

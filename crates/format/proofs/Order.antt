@@ -9,15 +9,12 @@ use lib.Dec.{eqb, leb}
 use lib.ListN.{length}
 use Rattle.mesh.specs.Tools.{between}
 use Rattle.mesh.specs.Mesh.{in_range, InRange, nodes}
-use Rattle.mesh.specs.Answers.{answer_no, answer_bad, ◌and_then◌, unless, check_sizes, check_cells, check_map, check_room}
+use Rattle.mesh.specs.Answers.{answer_no, answer_bad, ◌and_then◌, unless, check_sizes, check_cells, check_map, check_room, accepted, Answer}
 use Rattle.mesh.specs.Order.{Check, ◌else◌, AllPass, NoneBad, map_checks, NamesBad}
 use Rattle.mesh.specs.declared.Sizes.{Sizes}
 use Rattle.mesh.specs.declared.Refusal.TheVariants.{BadSizes, NoRoom, BadFile}
-use Rattle.mesh.specs.declared.Answer.{Answer}
-use Rattle.mesh.specs.declared.Answer.TheVariants.{Done}
 use Rattle.mesh.proofs.Tests.{T-and, T-eq, T-le, T-all}
-use Rattle.mesh.proofs.Order.{◌decide◌, all_pass, decides_two, decides_then, decides_by, sizes_decided, room_decided, cells_decided, map_decided}
-use Rattle.mesh.proofs.Order.{bad_then, bad_unless, bad_after, bad_cells, bad_map}
+use Rattle.mesh.proofs.Order.{◌decide◌, all_pass, decides_two, decides_then, decides_by, sizes_decided, room_decided, cells_decided, map_decided, bad_then, bad_unless, bad_after, bad_cells, bad_map}
 use Rattle.format.specs.Format.{trailer_length, file_limit, distance, trailer_at, has_mark, sizes_in, distance_in, cells_in}
 use Rattle.format.specs.Entry.{check_frame, check_trailer, read_check, write_check}
 use Rattle.format.specs.Promise.{Framed, Reaches, read_checks, write_checks}
@@ -76,13 +73,13 @@ module _ (file : List ℕ) where
       (cells_decided S (cells_in file))
 
   -- granted exactly if all pass
-  pub frame_passes : (check_frame file ≡ Done) ↔ AllPass (Framed file else 11 ∷ [])
+  pub frame_passes : (check_frame file ≡ accepted) ↔ AllPass (Framed file else 11 ∷ [])
   frame_passes = all_pass (Framed file else 11 ∷ []) (check_frame file) frame_decided
 
-  pub trailer_passes : (check_trailer file ≡ Done) ↔ AllPass trailer_checks
+  pub trailer_passes : (check_trailer file ≡ accepted) ↔ AllPass trailer_checks
   trailer_passes = all_pass trailer_checks (check_trailer file) trailer_decided
 
-  pub read_passes : (room : ℕ) → (read_check file room ≡ Done) ↔ AllPass (read_checks file room)
+  pub read_passes : (room : ℕ) → (read_check file room ≡ accepted) ↔ AllPass (read_checks file room)
   read_passes room = all_pass (read_checks file room) (read_check file room) (read_decided room)
 
   pub read_bad : (room : ℕ) → NamesBad S (cells_in file) (answer_no (read_check file room)) (answer_bad (read_check file room))
@@ -109,7 +106,7 @@ module _ (S : Sizes) (cells : List ℕ) (room : ℕ) where
       decides_then (map_checks S cells) ((distance S ≤ room) else 3 ∷ []) (check_map S cells) (check_room (distance S) room)
       (map_decided S cells) (room_decided (distance S) room)
 
-  pub write_passes : (write_check S cells room ≡ Done) ↔ AllPass (write_checks S cells room)
+  pub write_passes : (write_check S cells room ≡ accepted) ↔ AllPass (write_checks S cells room)
   write_passes = all_pass (write_checks S cells room) (write_check S cells room) write_decided
 
   pub write_bad : NamesBad S cells (answer_no (write_check S cells room)) (answer_bad (write_check S cells room))

@@ -7,59 +7,56 @@ use Prim.Native.Nat.{ℕ, ◌≤◌}
 use lib.ListN.{length, take, drop}
 use lib.Seq.{take_at}
 use Rattle.mesh.specs.Mesh.{nodes}
-use Rattle.mesh.specs.Answers.{answer_no, answer_bad, answer_value, numbered_no, numbered_bad, numbered_value}
+use Rattle.mesh.specs.Answers.{answer_no, answer_bad, answer_value, numbered_value, answered, accepted, Answer}
 use Rattle.mesh.specs.Order.{◌give◌, InOrder, NamesBad}
 use Rattle.mesh.specs.declared.Sizes.{Sizes}
-use Rattle.mesh.specs.declared.Answer.{Answer}
-use Rattle.mesh.specs.declared.Answer.TheVariants.{Done, Refused}
-use Rattle.mesh.specs.declared.Numbered.{Numbered}
 use Rattle.mesh.proofs.Answers.{kept}
 use native.Mathlib.Decide.{ℕ_discrete}
 use Rattle.mesh.proofs.Order.{bad_one, one_number, gives, done_of, refused_of, numbered_as}
 use Rattle.format.specs.Format.{distance, file_of, MapFile, sizes_in, cells_in}
-use Rattle.format.specs.Entry.{map_read, map_read_no, map_read_bad, map_read_sizes, read_check, read_answer, read_written, read_out}
-use Rattle.format.specs.Entry.{write_check, write_answer, write_written, write_out}
+use Rattle.format.specs.Entry.{map_read_sizes, read_check, read_answer, read_written, read_out, write_check, write_answer, write_written, write_out}
 use Rattle.format.specs.Promise.{read_checks, write_checks, Bytes, Reads, Writes}
-use Rattle.format.specs.declared.MapRead.{MapRead}
 use Rattle.format.proofs.Order.{read_decided, read_bad, write_decided, write_passes, write_bad}
 use Rattle.format.proofs.Refusals.{not_read, is_read}
 use Rattle.format.proofs.Reading.{file_sizes, file_granted, read_exactly, read_out_lem}
 use Rattle.format.proofs.Writing.{file_size, written_file}
+use Rattle.std.specs.Prelude.{Ok, Err, Result}
+use Rattle.mesh.specs.declared.Refusal.{Refusal}
 
 -- ---- reading
 
-read_numbers : (a : Answer) (S : Sizes) → (map_read_no (map_read a S) ≡ answer_no a) × (map_read_bad (map_read a S) ≡ answer_bad a)
-read_numbers Done S = (refl, refl)
-read_numbers (Refused r) S = (refl, refl)
+read_numbers : (a : Answer) (S : Sizes) → (answer_no (answered a S) ≡ answer_no a) × (answer_bad (answered a S) ≡ answer_bad a)
+read_numbers (Ok _) S = (refl, refl)
+read_numbers (Err r) S = (refl, refl)
 
 each : {S Z : Sizes} → S ≡ Z → (S.w ≡ Z.w) × (S.h ≡ Z.h) × (S.d ≡ Z.d)
 each e = (ap (λ (S : Sizes). S.w) e, ap (λ (S : Sizes). S.h) e, ap (λ (S : Sizes). S.d) e)
 
 module _ (file : List ℕ) (room : ℕ) where
-  numbers : (map_read_no (read_answer file room) ≡ answer_no (read_check file room)) × (map_read_bad (read_answer file room) ≡ answer_bad (read_check file room))
+  numbers : (answer_no (read_answer file room) ≡ answer_no (read_check file room)) × (answer_bad (read_answer file room) ≡ answer_bad (read_check file room))
   unfolding read_answer
   numbers = read_numbers (read_check file room) (sizes_in file)
 
-  pub read_order : read_checks file room give map_read_no (read_answer file room)
+  pub read_order : read_checks file room give answer_no (read_answer file room)
   read_order = rw numbers.0 (gives (read_checks file room) (read_check file room) (read_decided file room))
 
-  pub read_names_bad : NamesBad (sizes_in file) (cells_in file) (map_read_no (read_answer file room)) (map_read_bad (read_answer file room))
+  pub read_names_bad : NamesBad (sizes_in file) (cells_in file) (answer_no (read_answer file room)) (answer_bad (read_answer file room))
   read_names_bad = rw (numbers.0, numbers.1) (read_bad file room)
 
-  pub read_file : {S : Sizes} {cells : List ℕ} → MapFile S cells file → nodes S ≤ room → map_read_no (read_answer file room) ≡ 0
+  pub read_file : {S : Sizes} {cells : List ℕ} → MapFile S cells file → nodes S ≤ room → answer_no (read_answer file room) ≡ 0
   read_file f h = numbers.0 ∙ ap answer_no (file_granted file f room h)
 
 module _ (file old : List ℕ) where
-  abbrev answer : MapRead
+  abbrev answer : Result Sizes Refusal
   answer = read_answer file (length old)
 
   abbrev reading : Answer
   reading = read_check file (length old)
 
-  told : map_read_no answer ≡ answer_no reading
+  told : answer_no answer ≡ answer_no reading
   told = (numbers file (length old)).0
 
-  pub read_given : map_read_no answer ≡ 0 → {S : Sizes} {cells : List ℕ} → MapFile S cells file
+  pub read_given : answer_no answer ≡ 0 → {S : Sizes} {cells : List ℕ} → MapFile S cells file
       → ((map_read_sizes answer).w ≡ S.w) × ((map_read_sizes answer).h ≡ S.h) × ((map_read_sizes answer).d ≡ S.d)
       × (read_out file old ≡ cells ++ drop (nodes S) old)
   read_given e f =
@@ -67,7 +64,7 @@ module _ (file old : List ℕ) where
       let q = each (ap map_read_sizes (is_read file (length old) done) ∙ file_sizes file f) in
       (q.0, q.1, q.2, read_out_lem file f old done)
 
-  pub read_nothing : map_read_no answer ≢ 0
+  pub read_nothing : answer_no answer ≢ 0
       → ((map_read_sizes answer).w ≡ 0) × ((map_read_sizes answer).h ≡ 0) × ((map_read_sizes answer).d ≡ 0) × (read_out file old ≡ old)
   read_nothing n =
       let (r, e) = refused_of reading (λ z. n (told ∙ z)) in
@@ -75,7 +72,7 @@ module _ (file old : List ℕ) where
       (q.0, q.1, q.2, kept reading r (read_written file old) old e)
 
   -- A file has bytes: that one which is read is the file of a map needs this, and nothing else does.
-  pub reads : Bytes file → Reads file old (map_read_no answer) (map_read_bad answer) (map_read_sizes answer).w (map_read_sizes answer).h (map_read_sizes answer).d (read_out file old)
+  pub reads : Bytes file → Reads file old (answer_no answer) (answer_bad answer) (map_read_sizes answer).w (map_read_sizes answer).h (map_read_sizes answer).d (read_out file old)
   reads bytes =
       record {
         order = read_order file (length old);
@@ -111,24 +108,24 @@ module _ (S : Sizes) (cells old : List ℕ) where
   abbrev writing : Answer
   writing = write_check S cells (length old)
 
-  abbrev counted : Numbered
+  abbrev counted : Result ℕ Refusal
   counted = write_answer S cells (length old)
 
-  values : (numbered_no counted ≡ answer_no writing) × (numbered_bad counted ≡ answer_bad writing)
+  values : (answer_no counted ≡ answer_no writing) × (answer_bad counted ≡ answer_bad writing)
       × (numbered_value counted ≡ answer_value writing (distance S))
   unfolding write_answer
   values = numbered_as writing (distance S)
 
-  done : numbered_no counted ≡ 0 → writing ≡ Done
+  done : answer_no counted ≡ 0 → writing ≡ accepted
   done e = done_of writing (sym values.0 ∙ e)
 
-  counts : numbered_no counted ≡ 0 → numbered_value counted ≡ distance S
+  counts : answer_no counted ≡ 0 → numbered_value counted ≡ distance S
   counts e = values.2 ∙ ap (λ (a : Answer). answer_value a (distance S)) (done e)
 
-  ordered : numbered_no counted ≡ 0 → InOrder S cells
+  ordered : answer_no counted ≡ 0 → InOrder S cells
   ordered e = let (s, (l, (g, _))) = (write_passes S cells (length old)).0 (done e) in record { sized = s; whole = l; good = g }
 
-  pub writes : Writes S cells old (numbered_no counted) (numbered_bad counted) (numbered_value counted) (write_out S cells old)
+  pub writes : Writes S cells old (answer_no counted) (answer_bad counted) (numbered_value counted) (write_out S cells old)
   unfolding write_written
   writes =
       record {

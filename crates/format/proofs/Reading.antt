@@ -8,22 +8,20 @@ use lib.ListN.{length, get_or, take, drop, length-append, length-drop, take-appe
 use lib.Seq.{ext_get_or, get_or-drop, drop-drop, get_or-append-add, take_at, drop_at}
 use Rattle.mesh.specs.Tools.{table}
 use Rattle.mesh.specs.Mesh.{InRange, nodes}
-use Rattle.mesh.specs.Answers.{granted}
+use Rattle.mesh.specs.Answers.{granted, answered, answer_no, accepted, Answer}
 use Rattle.mesh.specs.Order.{AllPass, NoneBad, InOrder}
 use Rattle.mesh.specs.declared.Sizes.{Sizes}
-use Rattle.mesh.specs.declared.Answer.{Answer}
-use Rattle.mesh.specs.declared.Answer.TheVariants.{Done, Refused}
 use Rattle.mesh.proofs.Tables.{length_table, get_d_table}
 use Rattle.mesh.proofs.Numbers.{nodes_le}
 use Rattle.mesh.proofs.Order.{not_zero}
 use Rattle.octets.specs.LittleEndian.{four_bytes}
 use Rattle.octets.proofs.LittleEndian.{bytes_of, number_back}
-use Rattle.format.specs.Format.{file_mark, file_limit, distance, trailer, file_of, MapFile}
-use Rattle.format.specs.Format.{trailer_at, sizes_in, distance_in, cells_in}
-use Rattle.format.specs.Entry.{map_read, map_read_no, map_read_sizes, read_check, read_answer, read_written, read_out}
+use Rattle.format.specs.Format.{file_mark, file_limit, distance, trailer, file_of, MapFile, trailer_at, sizes_in, distance_in, cells_in}
+use Rattle.format.specs.Entry.{map_read_sizes, read_check, read_answer, read_written, read_out}
 use Rattle.format.specs.Promise.{Framed, Reaches, read_checks, Bytes}
 use Rattle.format.proofs.Order.{read_passes}
 use Rattle.format.proofs.Refusals.{cells_size}
+use Rattle.std.specs.Prelude.{Ok, Err}
 
 -- ---- a file that is read is a map file
 
@@ -118,9 +116,9 @@ module _ (S : Sizes) (notes cells : List ℕ) (m : InOrder S cells) where
 
 -- ---- the two together
 
-pub read_as : (a : Answer) (Z S : Sizes) → ((map_read_no (map_read a Z) ≡ 0) × (map_read_sizes (map_read a Z) ≡ S)) ↔ ((a ≡ Done) × (Z ≡ S))
-read_as Done Z S = (λ q. (refl, q.1), λ q. (refl, q.1))
-read_as (Refused r) Z S = (
+pub read_as : (a : Answer) (Z S : Sizes) → ((answer_no (answered a Z) ≡ 0) × (map_read_sizes (answered a Z) ≡ S)) ↔ ((a ≡ accepted) × (Z ≡ S))
+read_as (Ok _) Z S = (λ q. (refl, q.1), λ q. (refl, q.1))
+read_as (Err r) Z S = (
   λ q. absurd (not_zero r q.0),
   λ q. let z : ◌≡◌ {A = ℕ} 0 1 = cc q.0 in absurd (omega arith),
 )
@@ -132,7 +130,7 @@ module _ (file : List ℕ) {S : Sizes} {cells : List ℕ} (f : MapFile S cells f
   file_cells : cells_in file ≡ cells
   file_cells = ap cells_in f.parts ∙ cells_are S f.notes cells f.in_order
 
-  pub file_granted : (room : ℕ) → nodes S ≤ room → read_check file room ≡ Done
+  pub file_granted : (room : ℕ) → nodes S ≤ room → read_check file room ≡ accepted
   file_granted room h =
       let fits : length (f.notes ++ file_of S cells) ≤ file_limit = subst (λ (l : List ℕ). length l ≤ file_limit) f.parts f.fits in
       let all = read S f.notes cells f.in_order room fits h in
@@ -140,7 +138,7 @@ module _ (file : List ℕ) {S : Sizes} {cells : List ℕ} (f : MapFile S cells f
 
 -- "what is read is what the trailer says": reading grants S exactly where the file is one of S, notes and cells and trailer, and there is room
 pub read_exactly : (file : List ℕ) → Bytes file → (room : ℕ) (S : Sizes)
-    → ((map_read_no (read_answer file room) ≡ 0) × (map_read_sizes (read_answer file room) ≡ S))
+    → ((answer_no (read_answer file room) ≡ 0) × (map_read_sizes (read_answer file room) ≡ S))
     ↔ ((cells : List ℕ) × MapFile S cells file × (nodes S ≤ room))
 unfolding read_answer
 read_exactly file bytes room S = (
@@ -152,7 +150,7 @@ read_exactly file bytes room S = (
 )
 
 -- and the bytes then lent have its cells in front
-pub read_out_lem : (file : List ℕ) {S : Sizes} {cells : List ℕ} → MapFile S cells file → (out : List ℕ) → read_check file (length out) ≡ Done
+pub read_out_lem : (file : List ℕ) {S : Sizes} {cells : List ℕ} → MapFile S cells file → (out : List ℕ) → read_check file (length out) ≡ accepted
     → read_out file out ≡ cells ++ drop (nodes S) out
 unfolding read_written
 read_out_lem file {S} {cells} f out done =

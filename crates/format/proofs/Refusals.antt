@@ -1,30 +1,25 @@
 -- Which refusal stands, check by check, and what the checks before it have granted. Assumes nothing.
 use mathlib.Core.Path.{◌≡◌}
-use mathlib.Core.Bool.{Bool, true, false, ◌&&◌}
+use mathlib.Core.Bool.{true}
 use mathlib.Core.List.{List}
-use Prim.Native.Nat.{ℕ, ◌+◌, ◌-◌, ◌≤◌, ◌<◌}
+use Prim.Native.Nat.{ℕ, ◌+◌, ◌-◌, ◌≤◌}
 use native.Mathlib.Omega.{arith}
-use borrow.Author.Tests.{lt-leb, le-leb, eq-eqb}
-use lib.Dec.{eqb, leb}
+use borrow.Author.Tests.{le-leb, eq-eqb}
 use lib.ListN.{length, take, drop, length-take, length-drop}
 use lib.Seq.{take_at}
 use Rattle.mesh.specs.Tools.{between}
-use Rattle.mesh.specs.Mesh.{in_range, InRange, nodes}
-use Rattle.mesh.specs.Answers.{unless, check_map}
+use Rattle.mesh.specs.Mesh.{InRange, nodes}
+use Rattle.mesh.specs.Answers.{check_map, accepted}
 use Rattle.mesh.specs.Order.{map_checks}
 use Rattle.mesh.specs.declared.Sizes.{Sizes}
 use Rattle.mesh.specs.declared.Refusal.{Refusal}
-use Rattle.mesh.specs.declared.Refusal.TheVariants.{BadSizes, NoRoom, BadFile}
-use Rattle.mesh.specs.declared.Answer.TheVariants.{Done, Refused}
-use Rattle.mesh.specs.declared.Numbered.TheVariants.{Number, NotNumbered}
 use Rattle.mesh.proofs.Answers.{sizes_is}
 use Rattle.mesh.proofs.Tests.{T-and, T-le, holds_true}
 use Rattle.mesh.proofs.Order.{all_pass, map_decided}
-use Rattle.format.specs.Format.{file_limit, distance, trailer_at, has_mark, sizes_in, distance_in, cells_in}
-use Rattle.format.specs.Entry.{check_frame, check_trailer, read_check, read_answer, read_written, read_out}
-use Rattle.format.specs.Entry.{write_check, write_answer}
-use Rattle.format.specs.declared.MapRead.TheVariants.{Read, NotRead}
+use Rattle.format.specs.Format.{distance, sizes_in, cells_in}
+use Rattle.format.specs.Entry.{check_frame, check_trailer, read_check, read_answer, read_written, read_out, write_check}
 use Rattle.format.proofs.Order.{frame_passes, trailer_passes, read_passes, write_passes}
+use Rattle.std.specs.Prelude.{Ok, Err}
 
 pub between_least : (a b n : ℕ) → between a b n ≡ true → a ≤ n
 between_least a b n e = let (l, m) = simp (T-and, T-le) at ((holds_true (between a b n)).1 e) in l
@@ -32,47 +27,14 @@ between_least a b n e = let (l, m) = simp (T-and, T-le) at ((holds_true (between
 module _ (file : List ℕ) where
   -- ---- length, mark and zero byte
 
-  pub frame_outside : between 12 file_limit (length file) ≡ false → check_frame file ≡ Refused BadFile
-  unfolding check_frame
-  frame_outside e = rw e
-
-  pub frame_inside : between 12 file_limit (length file) ≡ true → (b : Bool) → (has_mark file && eqb (trailer_at file 3) 0) ≡ b
-      → check_frame file ≡ unless b BadFile
-  unfolding check_frame
-  frame_inside l b e = rw (l, e)
-
-  pub frame_least : check_frame file ≡ Done → 12 ≤ length file
+  pub frame_least : check_frame file ≡ accepted → 12 ≤ length file
   frame_least e = ((frame_passes file).0 e).0.least
 
-  -- ---- after these the sizes, and the distance
-
-  pub trailer_stands : (r : Refusal) → check_frame file ≡ Refused r → check_trailer file ≡ Refused r
-  unfolding check_trailer
-  trailer_stands r e = rw e
-
-  pub trailer_sizes : check_frame file ≡ Done → in_range (sizes_in file) ≡ false → check_trailer file ≡ Refused BadSizes
-  unfolding check_trailer
-  trailer_sizes f e = rw (f, e)
-
-  module _ (framed : check_frame file ≡ Done) (sized : in_range (sizes_in file) ≡ true) where
-    pub trailer_reaches : (b : Bool) → (eqb (distance_in file) (distance (sizes_in file)) && leb (distance (sizes_in file)) (length file)) ≡ b
-        → check_trailer file ≡ unless b BadFile
-    unfolding check_trailer
-    trailer_reaches b e = rw (framed, sized, e)
-
-  -- what has been granted then
-  pub trailer_says : check_trailer file ≡ Done → (12 ≤ length file) × InRange (sizes_in file) × (distance (sizes_in file) ≤ length file)
+  -- what the trailer grants
+  pub trailer_says : check_trailer file ≡ accepted → (12 ≤ length file) × InRange (sizes_in file) × (distance (sizes_in file) ≤ length file)
   trailer_says e = let (f, (s, (r, _))) = (trailer_passes file).0 e in (f.least, s, r.inside)
 
   -- ---- after these the room, and the cells
-
-  pub read_stands : (room : ℕ) (r : Refusal) → check_trailer file ≡ Refused r → read_check file room ≡ Refused r
-  unfolding read_check
-  read_stands room r e = rw e
-
-  pub read_room : (room : ℕ) → check_trailer file ≡ Done → room < nodes (sizes_in file) → read_check file room ≡ Refused NoRoom
-  unfolding read_check
-  read_room room e h = rw (e, lt-leb (nodes (sizes_in file)) room h)
 
   -- N cells stand before the trailer where there is room for them
   pub cells_size : distance (sizes_in file) ≤ length file → length (cells_in file) ≡ nodes (sizes_in file)
@@ -80,7 +42,7 @@ module _ (file : List ℕ) where
   cells_size h = simp (length-take, length-drop) (omega arith)
 
   -- a check of the whole map repeats what is known, and then looks at the cells
-  pub read_cells : (room : ℕ) → check_trailer file ≡ Done → nodes (sizes_in file) ≤ room → read_check file room ≡ check_map (sizes_in file) (cells_in file)
+  pub read_cells : (room : ℕ) → check_trailer file ≡ accepted → nodes (sizes_in file) ≤ room → read_check file room ≡ check_map (sizes_in file) (cells_in file)
   unfolding read_check check_map
   read_cells room e h =
       let q = trailer_says e in
@@ -92,23 +54,23 @@ module _ (file : List ℕ) where
   unfolding cells_in
   cells_part n e = rw e
 
-  pub not_read : (room : ℕ) (r : Refusal) → read_check file room ≡ Refused r → read_answer file room ≡ NotRead r
+  pub not_read : (room : ℕ) (r : Refusal) → read_check file room ≡ Err r → read_answer file room ≡ Err r
   unfolding read_answer
   not_read room r e = rw e
 
-  pub is_read : (room : ℕ) → read_check file room ≡ Done → read_answer file room ≡ Read (sizes_in file)
+  pub is_read : (room : ℕ) → read_check file room ≡ accepted → read_answer file room ≡ Ok (sizes_in file)
   unfolding read_answer
   is_read room e = rw e
 
   -- what is read is in order, and stands in front
-  pub read_ordered : (room : ℕ) → read_check file room ≡ Done → check_map (sizes_in file) (cells_in file) ≡ Done
+  pub read_ordered : (room : ℕ) → read_check file room ≡ accepted → check_map (sizes_in file) (cells_in file) ≡ accepted
   read_ordered room e =
       let (f, (s, (r, (h, (g, _))))) = (read_passes file room).0 e in
       let S = sizes_in file in
       let cells = cells_in file in
       (all_pass (map_checks S cells) (check_map S cells) (map_decided S cells)).1 (s, (cells_size r.inside, (g, tt)))
 
-  pub read_front : (out : List ℕ) → read_check file (length out) ≡ Done → take (nodes (sizes_in file)) (read_out file out) ≡ cells_in file
+  pub read_front : (out : List ℕ) → read_check file (length out) ≡ accepted → take (nodes (sizes_in file)) (read_out file out) ≡ cells_in file
   unfolding read_written
   read_front out e =
       let (f, (s, (r, _))) = (read_passes file (length out)).0 e in
@@ -118,25 +80,5 @@ module _ (file : List ℕ) where
 -- ---- writing: the map, and the room
 
 module _ (S : Sizes) (cells : List ℕ) (room : ℕ) where
-  pub write_stands : (r : Refusal) → check_map S cells ≡ Refused r → write_check S cells room ≡ Refused r
-  unfolding write_check
-  write_stands r e = rw e
-
-  pub write_room : check_map S cells ≡ Done → room < distance S → write_check S cells room ≡ Refused NoRoom
-  unfolding write_check
-  write_room e h = rw (e, lt-leb (distance S) room h)
-
-  pub write_granted : check_map S cells ≡ Done → distance S ≤ room → write_check S cells room ≡ Done
-  unfolding write_check
-  write_granted e h = rw (e, le-leb (distance S) room h)
-
-  pub not_written : (r : Refusal) → write_check S cells room ≡ Refused r → write_answer S cells room ≡ NotNumbered r
-  unfolding write_answer
-  not_written r e = rw e
-
-  pub is_written : write_check S cells room ≡ Done → write_answer S cells room ≡ Number (distance S)
-  unfolding write_answer
-  is_written e = rw e
-
-  pub write_says : write_check S cells room ≡ Done → InRange S × (length cells ≡ nodes S) × (distance S ≤ room)
+  pub write_says : write_check S cells room ≡ accepted → InRange S × (length cells ≡ nodes S) × (distance S ≤ room)
   write_says e = let (s, (l, (g, (r, _)))) = (write_passes S cells room).0 e in (s, l, r)

@@ -1,34 +1,17 @@
 -- The calls that read and write a map file: their answers, and what they leave in the bytes lent to them. Assumes nothing.
-use Rattle.std.specs.Prelude.{◌&&◌, List, ◌++◌, ℕ, length, drop, eqb, leb}
+use Rattle.std.specs.Prelude.{◌&&◌, List, ◌++◌, ℕ, length, drop, eqb, leb, Ok, Err, Result}
 use Rattle.mesh.specs.Tools.{between}
 use Rattle.mesh.specs.Mesh.{sizes, nodes}
-use Rattle.mesh.specs.Answers.{refusal_no, refusal_bad, granted, numbered, ◌and_then◌, unless, check_sizes, check_cells, check_map, check_room}
+use Rattle.mesh.specs.Answers.{granted, answered, ◌and_then◌, unless, check_sizes, check_cells, check_map, check_room, Answer}
 use Rattle.mesh.specs.declared.Sizes.{Sizes}
 use Rattle.mesh.specs.declared.Refusal.TheVariants.{BadFile}
-use Rattle.mesh.specs.declared.Answer.{Answer}
-use Rattle.mesh.specs.declared.Answer.TheVariants.{Done, Refused}
-use Rattle.mesh.specs.declared.Numbered.{Numbered}
 use Rattle.format.specs.Format.{trailer_length, file_limit, distance, file_of, trailer_at, has_mark, sizes_in, distance_in, cells_in}
-use Rattle.format.specs.declared.MapRead.{MapRead}
-use Rattle.format.specs.declared.MapRead.TheVariants.{Read, NotRead}
+use Rattle.mesh.specs.declared.Refusal.{Refusal}
 
--- what reading answers: the sizes, or the refusal
-abbrev pub map_read : Answer → Sizes → MapRead
-map_read Done S = Read S
-map_read (Refused r) S = NotRead r
-
--- the number and values of such an answer
-abbrev pub map_read_no : MapRead → ℕ
-map_read_no (Read S) = 0
-map_read_no (NotRead r) = refusal_no r
-
-abbrev pub map_read_bad : MapRead → ℕ
-map_read_bad (Read S) = 0
-map_read_bad (NotRead r) = refusal_bad r
-
-abbrev pub map_read_sizes : MapRead → Sizes
-map_read_sizes (Read S) = S
-map_read_sizes (NotRead r) = sizes 0 0 0
+-- the sizes of a map that was read
+abbrev pub map_read_sizes : Result Sizes Refusal → Sizes
+map_read_sizes (Ok S) = S
+map_read_sizes (Err r) = sizes 0 0 0
 
 -- "Reading a file: length, mark and zero byte (11), sizes (1), distance not N + 12 or beyond the file (11), room (3), cells (4)."
 unfoldable pub check_frame : List ℕ → Answer
@@ -44,8 +27,8 @@ check_trailer file =
 unfoldable pub read_check : List ℕ → ℕ → Answer
 read_check file room = check_trailer file and_then check_room (nodes (sizes_in file)) room and_then check_cells (sizes_in file) (cells_in file)
 
-unfoldable pub read_answer : List ℕ → ℕ → MapRead
-read_answer file room = map_read (read_check file room) (sizes_in file)
+unfoldable pub read_answer : List ℕ → ℕ → Result Sizes Refusal
+read_answer file room = answered (read_check file room) (sizes_in file)
 
 -- the cells go to the front of the lent bytes; "longer outputs keep their remaining places"
 unfoldable pub read_written : List ℕ → List ℕ → List ℕ
@@ -59,8 +42,8 @@ read_out file out = granted (read_check file (length out)) (read_written file ou
 unfoldable pub write_check : Sizes → List ℕ → ℕ → Answer
 write_check S cells room = check_map S cells and_then check_room (distance S) room
 
-unfoldable pub write_answer : Sizes → List ℕ → ℕ → Numbered
-write_answer S cells room = numbered (write_check S cells room) (distance S)
+unfoldable pub write_answer : Sizes → List ℕ → ℕ → Result ℕ Refusal
+write_answer S cells room = answered (write_check S cells room) (distance S)
 
 unfoldable pub write_written : Sizes → List ℕ → List ℕ → List ℕ
 write_written S cells out = file_of S cells ++ drop (distance S) out

@@ -8,15 +8,14 @@ use Rattle.mesh.specs.declared.Sizes.{Sizes}
 use Rattle.mesh.specs.declared.Refusal.{Refusal}
 use Rattle.format.specs.Format.{cells_in}
 use Rattle.format.specs.Entry.{read_answer}
-use Rattle.format.specs.declared.MapRead.{MapRead}
-use Rattle.format.specs.declared.MapRead.TheVariants.{Read, NotRead}
 use Rattle.report.specs.Report.{refusal_line, most_nodes}
 use Rattle.gossiping.specs.Text.{map_text, text_on, gossip}
+use Rattle.std.specs.Prelude.{Ok, Err, Result}
 
-pub map_told : (file : List ℕ) (S : Sizes) → read_answer file most_nodes ≡ Read S → map_text (map_of S (cells_in file)) ≡ gossip file
+pub map_told : (file : List ℕ) (S : Sizes) → read_answer file most_nodes ≡ Ok S → map_text (map_of S (cells_in file)) ≡ gossip file
 unfolding gossip
-map_told file S is = sym (ap (λ (a : MapRead). text_on a (cells_in file)) is)
+map_told file S is = sym (ap (λ (a : Result Sizes Refusal). text_on a (cells_in file)) is)
 
-pub refusal_told : (file : List ℕ) (r : Refusal) → read_answer file most_nodes ≡ NotRead r → refusal_line (refusal_no r) ≡ gossip file
+pub refusal_told : (file : List ℕ) (r : Refusal) → read_answer file most_nodes ≡ Err r → refusal_line (refusal_no r) ≡ gossip file
 unfolding gossip
-refusal_told file r is = sym (ap (λ (a : MapRead). text_on a (cells_in file)) is)
+refusal_told file r is = sym (ap (λ (a : Result Sizes Refusal). text_on a (cells_in file)) is)

@@ -1,51 +1,50 @@
 -- The loop over the rounds: what holds after r of them, at the start, from one to the next and at the end. Assumes nothing.
-use mathlib.Core.Path.{◌≡◌, sym, ap, ap₂, ◌∙◌, subst, subst⁻¹}
+use mathlib.Core.Path.{◌≡◌, sym, ap, ap₂, ◌∙◌, subst⁻¹}
 use mathlib.Core.Logic.{◌≢◌}
-use mathlib.Core.List.{List}
+use mathlib.Core.List.{List, ◌++◌}
 use Prim.Native.Nat.{ℕ, suc, ◌+◌, ◌-◌, ◌*◌, ◌<◌, ◌≤◌}
 use native.Mathlib.Decide.{ℕ_discrete}
+use native.Mathlib.Numerals.{add-one}
 use native.Mathlib.Omega.{arith}
-use lib.ListN.{length, replicate}
+use lib.ListN.{replicate}
 use Rattle.mesh.specs.Mesh.{InRange}
 use Rattle.mesh.specs.Cells.{Map}
 use Rattle.mesh.specs.declared.Sizes.{Sizes}
 use Rattle.talk.specs.Sound.{fresh}
 use Rattle.talk.specs.Hear.{outstanding}
 use Rattle.talk.proofs.Same.{outstanding_in}
-use Rattle.text.specs.Text.{Said}
-use Rattle.text.proofs.Saying.{said_none, said_next, said_as}
+use Rattle.text.specs.Text.{Added}
+use Rattle.text.proofs.Adding.{added_none, added_as, added_turn}
 use Rattle.rounds.specs.Chance.{seed}
 use Rattle.rounds.specs.Links.{links, Net, net, Going}
 use Rattle.rounds.specs.Rounds.{one_round, after_rounds}
-use Rattle.rounds.specs.Figures.{marks_held, outstanding_after, settled_from, longest, settled_at}
+use Rattle.rounds.specs.Figures.{marks_held, outstanding_after, marks_after, settled_from, longest, settled_at}
 use Rattle.gossiping.specs.Text.{round_line, round_lines}
 use Rattle.report.specs.Room.{line_room}
 use Rattle.rounds.proofs.Led.{going}
 use Rattle.rounds.proofs.Settled.{settled_here, settled_on, sound_at, last_settled}
 
--- after r rounds of which all but the last is told from `at` on, where `old` was: the text is now `out`, and goes on at `next`
-pub record Turn (m : Map) (o at : ℕ) (old state way out : List ℕ) (drawn r next : ℕ) : Type 0 where
+-- after r rounds of which all but the last is told on a page that held `old`
+pub record Turn (m : Map) (o : ℕ) (old state way page : List ℕ) (drawn r : ℕ) : Type 0 where
   pub is : net state way drawn ≡ after_rounds m o r
-  pub said : Said old at (round_lines m o r) out next
-  pub room : next ≤ at + line_room * r
+  pub told : Added old (round_lines m o r) (line_room * r) page
   pub few : r ≤ longest m.sizes
   pub same : settled_from m o (longest m.sizes - r) r ≡ settled_at m o
 
-pub turn_first : (m : Map) (o at : ℕ) (old state way : List ℕ) → state ≡ fresh m o → way ≡ replicate (links m.sizes) 0
-    → Turn m o at old state way old seed 0 at
+pub turn_first : (m : Map) (o : ℕ) (old state way : List ℕ) → state ≡ fresh m o → way ≡ replicate (links m.sizes) 0
+    → Turn m o old state way old seed 0
 unfolding after_rounds round_lines
-turn_first m o at old state way e f =
+turn_first m o old state way e f =
     let all : longest m.sizes - 0 ≡ longest m.sizes = omega arith in
     record {
       is = ap₂ (λ (s w : List ℕ). net s w seed) e f;
-      said = said_none old at;
-      room = omega arith;
+      told = added_none old;
       few = omega arith;
       same = ap (λ (n : ℕ). settled_from m o n 0) all;
     }
 
-module _ {m : Map} {o at : ℕ} {old state way out : List ℕ} {drawn r next : ℕ}
-    (fit : InRange m.sizes) (o_le : o ≤ 7) (t : Turn m o at old state way out drawn r next) where
+module _ {m : Map} {o : ℕ} {old state way page : List ℕ} {drawn r : ℕ}
+    (fit : InRange m.sizes) (o_le : o ≤ 7) (t : Turn m o old state way page drawn r) where
   abbrev S : Sizes
   S = m.sizes
 
@@ -59,12 +58,13 @@ module _ {m : Map} {o at : ℕ} {old state way out : List ℕ} {drawn r next : �
   found : outstanding S state ≡ outstanding_after m o r
   found = ap (outstanding S) state_is ∙ outstanding_in m o (after_rounds m o r).state (sound_at m o fit o_le r)
 
-  pub turn_told : (out' : List ℕ) (next' : ℕ) → at + line_room * r ≤ length old
-      → Said out next (round_line r (outstanding S state) (marks_held S state)) out' next' → Said old at (round_lines m o (suc r)) out' next'
+  more_lines : round_lines m o (r + 1) ≡ round_lines m o r ++ round_line r (outstanding_after m o r) (marks_after m o r)
   unfolding round_lines
-  turn_told out' next' fits s =
-      let line = ap₂ (round_line r) found (ap (marks_held S) state_is) in
-      said_next (omega (arith, t.said.place, t.room)) t.said (said_as line s)
+  more_lines = rw add-one
+
+  pub turn_told : {page' : List ℕ} → Added page (round_line r (outstanding S state) (marks_held S state)) line_room page'
+      → Added old (round_lines m o (r + 1)) (line_room * (r + 1)) page'
+  turn_told s = added_turn line_room r more_lines t.told (added_as (ap₂ (round_line r) found (ap (marks_held S) state_is)) s)
 
   -- with nothing left, this is the round that is printed last
   pub turn_last : outstanding S state ≡ 0 → r ≡ settled_at m o
@@ -77,22 +77,19 @@ module _ {m : Map} {o at : ℕ} {old state way out : List ℕ} {drawn r next : �
     | no e ↦ omega (arith, t.few)
   ]
 
-  pub turn_next : (state' way' out' : List ℕ) (drawn' next' : ℕ) → outstanding S state ≢ 0
-      → net state' way' drawn' ≡ one_round S o r (net state way drawn) → at + line_room * r ≤ length old
-      → Said out next (round_line r (outstanding S state) (marks_held S state)) out' next' → next' ≤ next + line_room
-      → Turn m o at old state' way' out' drawn' (r + 1) next'
+  pub turn_next : {state' way' page' : List ℕ} {drawn' : ℕ} → outstanding S state ≢ 0
+      → net state' way' drawn' ≡ one_round S o r (net state way drawn)
+      → Added page (round_line r (outstanding S state) (marks_held S state)) line_room page'
+      → Turn m o old state' way' page' drawn' (r + 1)
   unfolding after_rounds
-  turn_next state' way' out' drawn' next' h e fits s l =
-      let n : suc r ≡ r + 1 = omega arith in
+  turn_next h e s =
       let more : suc (longest S - suc r) ≡ longest S - r = omega (arith, turn_more h) in
-      subst (λ (k : ℕ). Turn m o at old state' way' out' drawn' k next') n
-      (record {
-        is = e ∙ ap (one_round S o r) t.is;
-        said = turn_told out' next' fits s;
-        room = omega (arith, t.room);
+      record {
+        is = rw add-one (e ∙ ap (one_round S o r) t.is);
+        told = turn_told s;
         few = omega (arith, turn_more h);
-        same =
-            sym (settled_on m o (longest S - suc r) r (λ z. h (found ∙ z)))
+        same = rw add-one
+            (sym (settled_on m o (longest S - suc r) r (λ z. h (found ∙ z)))
             ∙ ap (λ (k : ℕ). settled_from m o k r) more
-            ∙ t.same;
-      })
+            ∙ t.same);
+      }

@@ -1,17 +1,17 @@
 -- The text that is printed for the bytes of a map file. Assumes nothing.
-use Rattle.std.specs.Prelude.{cond, List, [], ◌∷◌, ◌++◌, ℕ, zero, suc, leb}
+use Rattle.std.specs.Prelude.{cond, List, [], ◌∷◌, ◌++◌, ℕ, zero, suc, leb, Ok, Err, Result}
 use Rattle.mesh.specs.Cells.{Map, map_of}
 use Rattle.mesh.specs.Answers.{refusal_no}
 use Rattle.format.specs.Format.{cells_in}
 use Rattle.format.specs.Entry.{read_answer}
-use Rattle.format.specs.declared.MapRead.{MapRead}
-use Rattle.format.specs.declared.MapRead.TheVariants.{Read, NotRead}
 use Rattle.text.specs.Text.{ascii, told}
 use Rattle.counts.specs.Counts.{faulty_count}
 use Rattle.report.specs.Report.{first_line, orientations, refusal_line, most_nodes}
 use Rattle.talk.specs.Promise.{workers, enough_rounds}
 use Rattle.rounds.specs.Rounds.{lossy_rounds}
 use Rattle.rounds.specs.Figures.{outstanding_after, marks_after, settled_at}
+use Rattle.mesh.specs.declared.Refusal.{Refusal}
+use Rattle.mesh.specs.declared.Sizes.{Sizes}
 
 -- which rounds have loss
 abbrev pub legend : List ℕ
@@ -46,9 +46,9 @@ abbrev pub map_text : Map → List ℕ
 map_text m = first_line m.sizes (faulty_count m) ++ legend ++ octant_texts m (orientations m.sizes)
 
 -- the text for a file, as of the report: a refusal is alone
-abbrev pub text_on : MapRead → List ℕ → List ℕ
-text_on (Read S) cells = map_text (map_of S cells)
-text_on (NotRead r) cells = refusal_line (refusal_no r)
+abbrev pub text_on : Result Sizes Refusal → List ℕ → List ℕ
+text_on (Ok S) cells = map_text (map_of S cells)
+text_on (Err r) cells = refusal_line (refusal_no r)
 
 unfoldable pub gossip : List ℕ → List ℕ
 gossip file = text_on (read_answer file most_nodes) (cells_in file)

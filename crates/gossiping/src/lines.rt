@@ -1,63 +1,53 @@
 // The lines that are printed.
 ghost use Rattle.std.specs.Prelude.{◌+◌, ◌≤◌, length};
-ghost use Rattle.text.specs.Text.{Said};
+ghost use Rattle.text.specs.Text.{Added};
 ghost use Rattle.gossiping.specs.Text.{legend, round_line, start_line, settled_line};
 ghost use Rattle.report.specs.Room.{line_room};
 
 use rounds::rounds::LOSSY_ROUNDS;
-use text::tell;
+use text::Page;
 
 // Which rounds have loss.
-pub(crate) fn legend(out: &mut [u8], at: usize) -> usize
-    requires { at + line_room ≤ length out.old }
-    ensures { Said out.old at legend out.new result × (result ≤ at + line_room) }
+#[tactic(auto, using(text::proofs::Adding::added_within))]
+pub(crate) fn legend<const N: usize>(page: &mut Page<N>)
+    requires { length page.old + line_room ≤ N }
+    ensures { Added page.old legend line_room page.new }
 {
-    tell(
+    page.tell(
         b"rounds 1 to % lose, repeat, delay and reorder words\n",
         &[LOSSY_ROUNDS],
-        out,
-        at,
-    )
+    );
 }
 
 // What is told of a round.
-pub(crate) fn round_line(r: usize, news: usize, marks: usize, out: &mut [u8], at: usize) -> usize
-    requires { at + line_room ≤ length out.old }
-    ensures { Said out.old at (round_line r news marks) out.new result × (result ≤ at + line_room) }
+pub(crate) fn round_line<const N: usize>(page: &mut Page<N>, r: usize, news: usize, marks: usize)
+    requires { length page.old + line_room ≤ N }
+    ensures { Added page.old (round_line r news marks) line_room page.new }
 {
     if r > LOSSY_ROUNDS {
-        return tell(
-            b"full round % outstanding % marks %\n",
-            &[r, news, marks],
-            out,
-            at,
-        );
+        page.tell(b"full round % outstanding % marks %\n", &[r, news, marks]);
+    } else {
+        page.tell(b"round % outstanding % marks %\n", &[r, news, marks]);
     }
-    tell(
-        b"round % outstanding % marks %\n",
-        &[r, news, marks],
-        out,
-        at,
-    )
 }
 
 // The first line of an orientation.
-pub(crate) fn start_line(o: usize, working: usize, out: &mut [u8], at: usize) -> usize
-    requires { at + line_room ≤ length out.old }
-    ensures { Said out.old at (start_line o working) out.new result × (result ≤ at + line_room) }
+#[tactic(auto, using(text::proofs::Adding::added_within))]
+pub(crate) fn start_line<const N: usize>(page: &mut Page<N>, o: usize, working: usize)
+    requires { length page.old + line_room ≤ N }
+    ensures { Added page.old (start_line o working) line_room page.new }
 {
-    tell(b"octant % working %\n", &[o, working], out, at)
+    page.tell(b"octant % working %\n", &[o, working]);
 }
 
 // Its last line.
-pub(crate) fn settled_line(r: usize, most: usize, out: &mut [u8], at: usize) -> usize
-    requires { at + line_room ≤ length out.old }
-    ensures { Said out.old at (settled_line r most) out.new result × (result ≤ at + line_room) }
+#[tactic(auto, using(text::proofs::Adding::added_within))]
+pub(crate) fn settled_line<const N: usize>(page: &mut Page<N>, r: usize, most: usize)
+    requires { length page.old + line_room ≤ N }
+    ensures { Added page.old (settled_line r most) line_room page.new }
 {
-    tell(
+    page.tell(
         b"settled after round %; % full rounds always settle\n",
         &[r, most],
-        out,
-        at,
-    )
+    );
 }

@@ -1,11 +1,10 @@
 // The rounds of one orientation, from the fresh state until nothing is outstanding.
 ghost use Rattle.std.specs.Prelude.{◌≡◌, suc, ◌+◌, ◌≤◌, length, replicate};
 ghost use Rattle.mesh.specs.Cells.{map_of};
-ghost use Rattle.mesh.specs.Answers.{check_map};
-ghost use Rattle.mesh.specs.declared.Answer.TheVariants.{Done};
+ghost use Rattle.mesh.specs.Answers.{check_map, accepted};
 ghost use Rattle.talk.specs.Sound.{fresh};
 ghost use Rattle.talk.specs.Hear.{outstanding};
-ghost use Rattle.text.specs.Text.{Said};
+ghost use Rattle.text.specs.Text.{Added};
 ghost use Rattle.rounds.specs.Links.{links, Fit};
 ghost use Rattle.rounds.specs.Figures.{marks_held, settled_at};
 ghost use Rattle.gossiping.specs.Text.{round_line, round_lines};
@@ -13,53 +12,48 @@ ghost use Rattle.report.specs.Room.{line_room};
 ghost use Rattle.gossiping.specs.Room.{rounds_room};
 
 use crate::lines::round_line;
-use crate::{Ended, Told};
 use mesh::Sizes;
 use rounds::chance::SEED;
 use rounds::figuring::{marks_held, news};
 use rounds::rounds::one_round;
+use text::Page;
 
-// The line on the state after r rounds.
-fn tell_round(s: Sizes, o: usize, r: usize, state: &[u8], out: &mut [u8], at: usize) -> Told
-    requires { Fit s o state.now × (at + line_room ≤ length out.old) }
-    ensures { (result.news ≡ outstanding s state.now)
-        × Said out.old at (round_line r (outstanding s state.now) (marks_held s state.now)) out.new result.next
-        × (result.next ≤ at + line_room) }
+// The line on the state after r rounds; how much news is outstanding.
+fn tell_round<const N: usize>(
+    page: &mut Page<N>,
+    s: Sizes,
+    o: usize,
+    r: usize,
+    state: &[u8],
+) -> usize
+    requires { Fit s o state.now × (length page.old + line_room ≤ N) }
+    ensures { (result ≡ outstanding s state.now)
+        × Added page.old (round_line r (outstanding s state.now) (marks_held s state.now)) line_room page.new }
 {
     let news = news(s, o, state);
-    let next = round_line(r, news, marks_held(s, state), out, at);
-    Told { news, next }
+    round_line(page, r, news, marks_held(s, state));
+    news
 }
 
-// A line for each round.
-pub(crate) fn talk(
+// A line for each round; how many rounds there were.
+pub(crate) fn talk<const N: usize>(
+    page: &mut Page<N>,
     s: Sizes,
     cells: &[u8],
     o: usize,
     state: &mut [u8],
     way: &mut [u8],
-    out: &mut [u8],
-    at: usize,
-) -> Ended
-    requires { (check_map s cells.now ≡ Done) × (o ≤ 7) × (state.old ≡ fresh (map_of s cells.now) o)
-        × (way.old ≡ replicate (links s) 0) × (at + rounds_room ≤ length out.old) }
-    ensures { (result.rounds ≡ settled_at (map_of s cells.now) o)
-        × Said out.old at (round_lines (map_of s cells.now) o (suc (settled_at (map_of s cells.now) o)))
-        out.new result.next × (result.next ≤ at + rounds_room) }
+) -> usize
+    requires { (check_map s cells.now ≡ accepted) × (o ≤ 7) × (state.old ≡ fresh (map_of s cells.now) o)
+        × (way.old ≡ replicate (links s) 0) × (length page.old + rounds_room ≤ N) }
+    ensures { (result ≡ settled_at (map_of s cells.now) o)
+        × Added page.old (round_lines (map_of s cells.now) o (suc (settled_at (map_of s cells.now) o))) rounds_room page.new }
 {
     let mut drawn = SEED;
     let mut r = 0;
-    let mut next = at;
-    loop {
-        let told = tell_round(s, o, r, state, out, next);
-        if told.news == 0 {
-            return Ended {
-                rounds: r,
-                next: told.next,
-            };
-        }
+    while tell_round(page, s, o, r, state) != 0 {
         drawn = one_round(s, o, r, state, way, drawn);
-        next = told.next;
         r += 1;
     }
+    r
 }

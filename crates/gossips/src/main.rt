@@ -3,15 +3,8 @@
 
 use gossiping::running::run;
 use std::io;
-use text::running::{arg_count, open_named};
+use text::running::each_named;
 
 fn main(rt: HostRuntime) -> io::Result<()> {
-    let mut out = rt.stdout();
-    let mut err = rt.stderr();
-    for i in 1..arg_count(&rt) {
-        if let Some(mut file) = open_named(&rt, &mut out, &mut err, b"", i)? {
-            run(&mut file, &mut out)?;
-        }
-    }
-    Ok(())
+    each_named(&rt, &mut rt.stdout(), &mut rt.stderr(), run)
 }

@@ -127,9 +127,6 @@ module _ (S : Sizes) (marks : List ℕ) where
 -- ---- back again: node k has the number at its spot
 
 module _ (S : Sizes) (g old new : List ℕ) where
-  pub copied_none : Copied S g old 0 old
-  copied_none = record { long = refl; done = λ k h. absurd (omega arith); rest = λ k h. refl }
-
   pub all_copied : nodes S ≤ length old → Copied S g old (nodes S) new → new ≡ copied S g old
   all_copied room C =
       let f : ℕ → ℕ = λ k. get_or g (spot (place_of S k)) 0 in

@@ -24,18 +24,18 @@ pub const FIRST: usize = 307;
 // The places of the grid: those before the mesh, and 17 layers. The last spot is 4912, and a step leads at most 306 further.
 pub const SIZE: usize = 5220;
 
+// The grid: what each of its places holds.
+#[derive(Drop)]
+pub struct Grid {
+    pub cells: [u16; SIZE],
+    ghost whole: { length cells ≡ grid_size },
+}
+
 // Where a row of the mesh begins: its first node, and that node's place in the grid.
 #[derive(Clone, Copy)]
 struct Row {
     node: usize,
     spot: usize,
-}
-
-// An empty grid; the queue of the flood is as long.
-pub fn blank_grid() -> [u16; SIZE]
-    ensures { result ≡ replicate grid_size 0 }
-{
-    [0; SIZE]
 }
 
 // What a mark byte is in the grid.
@@ -55,36 +55,13 @@ fn row_of(s: Sizes, y: usize, z: usize) -> Row
     Row { node, spot }
 }
 
-// A row of w marks that begins at node k goes into the grid at a spot.
+// A row of w marks that begins at node k goes into the grid at a spot. An index into the grid: of what an adapter of `iter_mut` wrote no proof knows.
 fn lay_row(marks: &[u8], grid: &mut [u16], w: usize, k: usize, at: usize)
     requires { (k + w ≤ length marks.now) × (at + w ≤ length grid.old) }
     ensures { Filled (λ x. at + x) (λ x. shade (get_or marks.now (k + x) 0)) grid.old grid.new w }
 {
-    for x in 0..w {
-        grid[at + x] = shade(marks[k + x]);
-    }
-}
-
-// The rows of layer z go into the grid.
-fn lay_layer(s: Sizes, marks: &[u8], grid: &mut [u16], z: usize)
-    requires { InRange s × (z < s.d) × (length marks.now ≡ nodes s) × Laid s marks.now (307 + 289 * z) grid.old }
-    ensures { Laid s marks.now (307 + 289 * (z + 1)) grid.new }
-{
-    let h = s.h;
-    for y in 0..h {
-        let row = row_of(s, y, z);
-        lay_row(marks, grid, s.w, row.node, row.spot);
-    }
-}
-
-// Lays a mesh's mark bytes into an empty grid.
-pub fn lay(s: Sizes, marks: &[u8], grid: &mut [u16])
-    requires { InRange s × (length marks.now ≡ nodes s) × (length grid.old ≡ grid_size) × ((j : ℕ) → get_or grid.old j 0 ≡ 0) }
-    ensures { grid.new ≡ grid_of s marks.now }
-{
-    let d = s.d;
-    for z in 0..d {
-        lay_layer(s, marks, grid, z);
+    for (x, &mark) in marks[k..k + w].iter().enumerate() {
+        grid[at + x] = shade(mark);
     }
 }
 
@@ -93,31 +70,57 @@ fn copy_row(grid: &[u16], table: &mut [u16], w: usize, k: usize, at: usize)
     requires { (k + w ≤ length table.old) × (at + w ≤ length grid.now) }
     ensures { Filled (λ x. k + x) (λ x. get_or grid.now (at + x) 0) table.old table.new w }
 {
-    for x in 0..w {
-        table[k + x] = grid[at + x];
-    }
+    table[k..k + w].copy_from_slice(&grid[at..at + w]);
 }
 
-// The rows of layer z go into the table.
-fn copy_layer(s: Sizes, grid: &[u16], table: &mut [u16], z: usize)
-    requires { InRange s × (z < s.d) × (length grid.now ≡ grid_size) × (nodes s ≤ length table.old) }
-    ensures { (old : List ℕ) → Copied s grid.now old (s.w * (s.h * z)) table.old
-        → Copied s grid.now old (s.w * (s.h * (z + 1))) table.new }
-{
-    let h = s.h;
-    for y in 0..h {
-        let row = row_of(s, y, z);
-        copy_row(grid, table, s.w, row.node, row.spot);
+impl Grid {
+    // An empty grid.
+    pub fn blank() -> Grid
+        ensures { result.cells ≡ replicate grid_size 0 }
+    {
+        Grid { cells: [0; SIZE] }
     }
-}
 
-// Copies the nodes' numbers to the front of the table.
-pub fn copy_out(s: Sizes, grid: &[u16], table: &mut [u16])
-    requires { InRange s × (length grid.now ≡ grid_size) × (nodes s ≤ length table.old) }
-    ensures { table.new ≡ copied s grid.now table.old }
-{
-    let d = s.d;
-    for z in 0..d {
-        copy_layer(s, grid, table, z);
+    // The rows of layer z go into the grid.
+    fn lay_layer(&mut self, s: Sizes, marks: &[u8], z: usize)
+        requires { InRange s × (z < s.d) × (length marks.now ≡ nodes s) × Laid s marks.now (307 + 289 * z) self.old.cells }
+        ensures { Laid s marks.now (307 + 289 * (z + 1)) self.new.cells }
+    {
+        for y in 0..s.h {
+            let row = row_of(s, y, z);
+            lay_row(marks, &mut self.cells, s.w, row.node, row.spot);
+        }
+    }
+
+    // Lays a mesh's mark bytes into an empty grid.
+    pub fn lay(&mut self, s: Sizes, marks: &[u8])
+        requires { InRange s × (length marks.now ≡ nodes s) × ((j : ℕ) → get_or self.old.cells j 0 ≡ 0) }
+        ensures { self.new.cells ≡ grid_of s marks.now }
+    {
+        for z in 0..s.d {
+            self.lay_layer(s, marks, z);
+        }
+    }
+
+    // The rows of layer z go into the table. The walk is that of `lay_layer`: one function with a closure would ask of it what these two promise.
+    fn copy_layer(&self, s: Sizes, table: &mut [u16], z: usize)
+        requires { InRange s × (z < s.d) × (nodes s ≤ length table.old) }
+        ensures { (old : List ℕ) → Copied s self.now.cells old (s.w * (s.h * z)) table.old
+            → Copied s self.now.cells old (s.w * (s.h * (z + 1))) table.new }
+    {
+        for y in 0..s.h {
+            let row = row_of(s, y, z);
+            copy_row(&self.cells, table, s.w, row.node, row.spot);
+        }
+    }
+
+    // Copies the nodes' numbers to the front of the table.
+    pub fn copy_out(&self, s: Sizes, table: &mut [u16])
+        requires { InRange s × (nodes s ≤ length table.old) }
+        ensures { table.new ≡ copied s self.now.cells table.old }
+    {
+        for z in 0..s.d {
+            self.copy_layer(s, table, z);
+        }
     }
 }

@@ -10,11 +10,7 @@ use lib.ListN.{length, get_or, drop, drop_of_length-le}
 use lib.Seq.{drop-cons}
 use Rattle.mesh.proofs.Tests.{T-and, T-le, holds_true}
 use Rattle.logfile.specs.Log.{digit, read_from}
-use Rattle.logfile.specs.declared.Read.TheVariants.{Number, NoNumber}
-
-pub digit_bounds : (b : ℕ) → digit b ≡ true → (48 ≤ b) × (b ≤ 57)
-unfolding digit
-digit_bounds b e = simp (T-and, T-le) at ((holds_true (digit b)).1 e)
+use Rattle.std.specs.Prelude.{Some, None}
 
 module _ (word : List ℕ) (i n : ℕ) (h : i < length word) where
   abbrev byte : ℕ
@@ -23,19 +19,19 @@ module _ (word : List ℕ) (i n : ℕ) (h : i < length word) where
   abbrev more : ℕ
   more = 10 * n + (byte - 48)
 
-  one_byte : read_from n (drop i word) ≡ cond (digit byte && ltb more (2 ^ 32)) (read_from more (drop (i + 1) word)) NoNumber
+  one_byte : read_from n (drop i word) ≡ cond (digit byte && ltb more (2 ^ 32)) (read_from more (drop (i + 1) word)) None
   unfolding read_from
   one_byte = rw (add-one, drop-cons word i 0 h)
 
   pub one_digit : digit byte ≡ true → more < 2 ^ 32 → read_from n (drop i word) ≡ read_from more (drop (i + 1) word)
   one_digit d l = one_byte ∙ rw (d, lt-ltb more (2 ^ 32) l)
 
-  pub no_digit : digit byte ≡ false → read_from n (drop i word) ≡ NoNumber
+  pub no_digit : digit byte ≡ false → read_from n (drop i word) ≡ None
   no_digit d = one_byte ∙ rw d
 
-  pub too_large : digit byte ≡ true → 2 ^ 32 ≤ more → read_from n (drop i word) ≡ NoNumber
+  pub too_large : digit byte ≡ true → 2 ^ 32 ≤ more → read_from n (drop i word) ≡ None
   too_large d l = one_byte ∙ rw (d, le-ltb more (2 ^ 32) l)
 
-pub all_read : (word : List ℕ) (i n : ℕ) → length word ≤ i → read_from n (drop i word) ≡ Number n
+pub all_read : (word : List ℕ) (i n : ℕ) → length word ≤ i → read_from n (drop i word) ≡ Some n
 unfolding read_from
 all_read word i n h = ap (read_from n) (drop_of_length-le word h)

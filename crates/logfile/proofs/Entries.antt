@@ -6,17 +6,16 @@ use borrow.Author.Tests.{eq-eqb, ne_eqb}
 use lib.ListN.{length}
 use Rattle.logfile.specs.Log.{up_to, past, next_word, number_of, pair_of, entry_by, entry_from, entry_of}
 use Rattle.logfile.specs.declared.Entry.TheVariants.{Nothing, Transfer, NoPair}
-use Rattle.logfile.specs.declared.Read.{Read}
-use Rattle.logfile.specs.declared.Read.TheVariants.{Number, NoNumber}
 use Rattle.logfile.specs.declared.Stop.TheVariants.{Comment, Blank, Word}
+use Rattle.std.specs.Prelude.{Some, None, Option}
 
-pub no_start : (r q : Read) → r ≡ NoNumber → NoPair ≡ pair_of r q
+pub no_start : (r q : Option ℕ) → r ≡ None → NoPair ≡ pair_of r q
 no_start r q e = rw e
 
-pub no_end : (r q : Read) (s : ℕ) → r ≡ Number s → q ≡ NoNumber → NoPair ≡ pair_of r q
+pub no_end : (r q : Option ℕ) (s : ℕ) → r ≡ Some s → q ≡ None → NoPair ≡ pair_of r q
 no_end r q s e f = rw (e, f)
 
-pub a_pair : (r q : Read) (s e : ℕ) → r ≡ Number s → q ≡ Number e → Transfer s e ≡ pair_of r q
+pub a_pair : (r q : Option ℕ) (s e : ℕ) → r ≡ Some s → q ≡ Some e → Transfer s e ≡ pair_of r q
 a_pair r q s e f g = rw (f, g)
 
 module _ (line first : List ℕ) (is : first ≡ past Word (up_to Comment line)) where

@@ -2,3 +2,4 @@ pub mod Digits
 pub mod Entries
 pub mod Lines
 pub mod Sample
+pub mod Stops

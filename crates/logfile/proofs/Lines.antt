@@ -1,4 +1,4 @@
--- The lines of a text, one after another: where the next one ends, and line i where the lines passed are the first i. Assumes nothing.
+-- The lines of a text, one after another: the first and the rest, and line i where the lines passed are the first i. Assumes nothing.
 use mathlib.Core.Path.{◌≡◌, refl, sym, ap, ◌∙◌}
 use mathlib.Core.Bool.{Bool, true, false, cond}
 use mathlib.Core.List.{List, [], ◌∷◌}
@@ -34,49 +34,38 @@ lines_next b (d ∷ l) = go (eqb b 10) (lines_next d l)
     go true h = refl
     go false h = ap (into_first b) h ∙ ap (λ (r : List ℕ). (b ∷ up_to Feed (d ∷ l)) ∷ lines_of r) (after b (before Feed (d ∷ l)) (d ∷ l))
 
-lines_from : (l : List ℕ) → 0 < length l → lines_of l ≡ up_to Feed l ∷ lines_of (drop (before Feed l + 1) l)
+pub lines_from : (l : List ℕ) → 0 < length l → lines_of l ≡ up_to Feed l ∷ lines_of (drop (before Feed l + 1) l)
 lines_from [] h = absurd (omega arith)
 lines_from (b ∷ bs) h = lines_next b bs
 
--- the lines from a place on
-module _ (text : List ℕ) (at : ℕ) where
-  pub line_next : (line : List ℕ) → line ≡ up_to Feed (drop at text) → at < length text
-      → lines_of (drop at text) ≡ line ∷ lines_of (drop (at + (length line + 1)) text)
-  line_next line is h =
-      let rest = drop at text in
-      let n = before Feed rest in
-      let e : length line ≡ n = ap length is ∙ length-take-le n rest (first_le (λ k. stops Feed) rest) in
-      lines_from rest (omega (arith, length-drop at text))
-      ∙ ap (λ (l : List ℕ). l ∷ lines_of (drop (n + 1) rest)) (sym is)
-      ∙ ap (λ (l : List ℕ). line ∷ lines_of l) (drop-drop (n + 1) at text ∙ ap (λ (k : ℕ). drop (at + (k + 1)) text) (sym e))
+-- an empty text has no line
+pub no_line : (l : List ℕ) → length l ≡ 0 → lines_of l ≡ []
+unfolding lines_of
+no_line [] h = refl
+no_line (b ∷ bs) h = absurd (omega arith)
 
-  pub no_line : length text ≤ at → lines_of (drop at text) ≡ []
-  unfolding lines_of
-  no_line h = ap lines_of (drop_of_length-le text h)
+-- a line is no longer than the text, and what follows it is shorter
+pub line_within : (l : List ℕ) → length (up_to Feed l) ≤ length l
+line_within l = omega (arith, length-take-le (before Feed l) l (first_le (λ k. stops Feed) l), first_le (λ k. stops Feed) l)
 
--- a line ends where the log does, at the latest
-pub line_within : (log line : List ℕ) (at : ℕ) → line ≡ up_to Feed (drop at log) → at ≤ length log → at + length line ≤ length log
-line_within log line at is h =
-    let rest = drop at log in
-    let n = before Feed rest in
-    let k : n ≤ length rest = first_le (λ i. stops Feed) rest in
-    omega (arith, ap length is ∙ length-take-le n rest k, length-drop at log)
+pub rest_shorter : (l : List ℕ) → 0 < length l → length (drop (before Feed l + 1) l) < length l
+rest_shorter l h = omega (arith, length-drop (before Feed l + 1) l)
 
--- line i of a text, where the lines from a place on are those from line i on
-module _ (text : List ℕ) (at i : ℕ) (ahead : lines_of (drop at text) ≡ drop i (lines_of text)) (left : i < length (lines_of text)) where
-  pub in_text : at < length text
-  in_text = go (ltb at (length text)) refl
+-- line i of a text, where the lines of the rest are those from line i on
+module _ (text rest : List ℕ) (i : ℕ) (ahead : lines_of rest ≡ drop i (lines_of text)) (left : i < length (lines_of text)) where
+  some : 0 < length rest
+  some = go (ltb 0 (length rest)) refl
     where
-      go : (t : Bool) → ltb at (length text) ≡ t → at < length text
-      go true e = ltb-true at (length text) e
+      go : (t : Bool) → ltb 0 (length rest) ≡ t → 0 < length rest
+      go true e = ltb-true 0 (length rest) e
       go false e =
-          let none : drop i (lines_of text) ≡ [] = sym ahead ∙ no_line text at (ltb-false at (length text) e) in
+          let empty : length rest ≤ 0 = ltb-false 0 (length rest) e in
+          let none : drop i (lines_of text) ≡ [] = sym ahead ∙ no_line rest (omega arith) in
           absurd (omega (arith, length-drop i (lines_of text), ap length none))
 
-  module _ (line : List ℕ) (is : line ≡ up_to Feed (drop at text)) where
-    pub line_passed : lines_of (drop (at + (length line + 1)) text) ≡ drop (i + 1) (lines_of text)
-    line_passed = ap (drop 1) (sym (line_next text at line is in_text) ∙ ahead) ∙ drop-drop 1 i (lines_of text)
+  pub line_passed : lines_of (drop (before Feed rest + 1) rest) ≡ drop (i + 1) (lines_of text)
+  line_passed = ap (drop 1) (sym (lines_from rest some) ∙ ahead) ∙ drop-drop 1 i (lines_of text)
 
-    pub line_is : line ≡ get_or (lines_of text) i []
-    line_is =
-        ap (λ (l : List (List ℕ)). get_or l 0 []) (sym (line_next text at line is in_text) ∙ ahead ∙ drop-cons (lines_of text) i [] left)
+  pub line_is : up_to Feed rest ≡ get_or (lines_of text) i []
+  line_is =
+      ap (λ (l : List (List ℕ)). get_or l 0 []) (sym (lines_from rest some) ∙ ahead ∙ drop-cons (lines_of text) i [] left)

@@ -1,10 +1,8 @@
 -- The log of transfers: text, `start end` to a line, blank lines and comments skipped. Assumes nothing.
-use Rattle.std.specs.Prelude.{Bool, cond, not, ◌&&◌, ◌||◌, List, [], ◌∷◌, ℕ, ◌+◌, ◌-◌, ◌*◌, ◌^◌, eqb, ltb, leb, length, take, drop}
+use Rattle.std.specs.Prelude.{Bool, cond, not, ◌&&◌, ◌||◌, List, [], ◌∷◌, ℕ, ◌+◌, ◌-◌, ◌*◌, ◌^◌, eqb, ltb, leb, length, take, drop, Some, None, Option}
 use Rattle.mesh.specs.Cells.{first_bad}
 use Rattle.logfile.specs.declared.Entry.{Entry}
 use Rattle.logfile.specs.declared.Entry.TheVariants.{Nothing, Transfer, NoPair}
-use Rattle.logfile.specs.declared.Read.{Read}
-use Rattle.logfile.specs.declared.Read.TheVariants.{Number, NoNumber}
 use Rattle.logfile.specs.declared.Stop.{Stop}
 use Rattle.logfile.specs.declared.Stop.TheVariants.{Feed, Comment, Blank, Word}
 
@@ -46,17 +44,17 @@ lines_of [] = []
 lines_of (b ∷ bs) = cond (eqb b 10) ([] ∷ lines_of bs) (into_first b (lines_of bs))
 
 -- a decimal number, digit by digit from the left, after those that say n: none where a byte is no digit, or the number leaves 32 bits
-unfoldable pub read_from : ℕ → List ℕ → Read
-read_from n [] = Number n
-read_from n (b ∷ bs) = cond (digit b && ltb (10 * n + (b - 48)) (2 ^ 32)) (read_from (10 * n + (b - 48)) bs) NoNumber
+unfoldable pub read_from : ℕ → List ℕ → Option ℕ
+read_from n [] = Some n
+read_from n (b ∷ bs) = cond (digit b && ltb (10 * n + (b - 48)) (2 ^ 32)) (read_from (10 * n + (b - 48)) bs) None
 
-unfoldable pub number_of : List ℕ → Read
-number_of word = cond (eqb (length word) 0) NoNumber (read_from 0 word)
+unfoldable pub number_of : List ℕ → Option ℕ
+number_of word = cond (eqb (length word) 0) None (read_from 0 word)
 
-abbrev pub pair_of : Read → Read → Entry
-pair_of (Number s) (Number e) = Transfer s e
-pair_of (Number s) NoNumber = NoPair
-pair_of NoNumber e = NoPair
+abbrev pub pair_of : Option ℕ → Option ℕ → Entry
+pair_of (Some s) (Some e) = Transfer s e
+pair_of (Some s) None = NoPair
+pair_of None e = NoPair
 
 -- `start end` to a line: two words, both numbers, and nothing after them but blanks and a comment; a line without a word says nothing
 abbrev pub entry_by : List ℕ → List ℕ → List ℕ → Entry

@@ -11,15 +11,9 @@ pub enum Entry {
     NoPair,
 }
 
-// A word read as a number.
-#[derive(Clone, Copy)]
-pub enum Read {
-    Number(usize),
-    NoNumber,
-}
-
 // Where a stretch of text ends: at a line feed, at a comment, at a blank, or at a word.
-#[derive(Clone, Copy)]
+// An enum and no closure: `up_to` and `past` of the definitions take it as a value, so a contract stays one equation with them.
+#[derive(Clone, Copy, Debug, PartialEq, Eq)]
 pub enum Stop {
     Feed,
     Comment,

@@ -1,29 +1,16 @@
 // Reading a log of transfers: what a line says.
-ghost use Rattle.std.specs.Prelude.{◌≡◌, [], ◌<◌, ◌≤◌, length, get_or, drop};
+ghost use Rattle.std.specs.Prelude.{◌≡◌, [], ◌+◌, ◌<◌, ◌≤◌, length, get_or, drop};
 ghost use Rattle.logfile.specs.Log.{blank, digit, stops, before, up_to, past, next_word, lines_of, number_of, entry_of};
 ghost use Rattle.logfile.specs.declared.Stop.TheVariants.{Feed};
 
-use crate::{Entry, Read, Stop};
+use crate::{Entry, Stop};
 
 // Does the byte part words?
 #[tactic(auto, unfolding(crate::specs::Log::blank))]
 fn blank(b: u8) -> bool
     ensures { result ≡ blank b }
 {
-    if b == b' ' {
-        return true;
-    }
-    if b == b'\t' {
-        return true;
-    }
-    b == b'\r'
-}
-
-// Is the byte a digit?
-fn digit(b: u8) -> bool
-    ensures { result ≡ digit b }
-{
-    b'0' <= b && b <= b'9'
+    matches!(b, b' ' | b'\t' | b'\r')
 }
 
 // Does a stretch of text end before this byte?
@@ -42,14 +29,9 @@ fn stops(stop: Stop, b: u8) -> bool
 fn before(stop: Stop, text: &[u8]) -> usize
     ensures { (result ≡ before stop text.now) × (result ≤ length text.now) }
 {
-    let mut i = 0;
-    while i < text.len() {
-        if stops(stop, text[i]) {
-            return i;
-        }
-        i += 1;
-    }
-    i
+    text.iter()
+        .position(|&b| stops(stop, b))
+        .unwrap_or(text.len())
 }
 
 // These bytes.
@@ -68,12 +50,13 @@ fn past(stop: Stop, text: &[u8]) -> &[u8]
     &text[n..]
 }
 
-// The line that begins at a place.
-pub fn line_from(text: &[u8], at: usize) -> &[u8]
-    requires { at ≤ length text.now }
-    ensures { result.now ≡ up_to Feed (drop at text.now) }
+// The first line of a text, and what follows its line feed.
+pub fn split_line(text: &[u8]) -> (&[u8], &[u8])
+    ensures line { result.0.now ≡ up_to Feed text.now }
+    ensures rest { result.1.now ≡ drop (before Feed text.now + 1) text.now }
 {
-    up_to(Stop::Feed, &text[at..])
+    let n = before(Stop::Feed, text);
+    (&text[..n], &text[(n + 1).min(text.len())..])
 }
 
 // Line k of a text, the first being line 0.
@@ -81,11 +64,13 @@ pub fn line_of(text: &[u8], k: usize) -> &[u8]
     requires { k < length (lines_of text.now) }
     ensures { (result.now ≡ get_or (lines_of text.now) k []) × (length result.now ≤ length text.now) }
 {
-    let mut at = 0;
-    for i in 0..k {
-        at += line_from(text, at).len() + 1;
+    let mut rest = text;
+    for _ in 0..k {
+        let (_, after) = split_line(rest);
+        rest = after;
     }
-    line_from(text, at)
+    let (line, _) = split_line(rest);
+    line
 }
 
 // From one word to the next.
@@ -96,24 +81,23 @@ fn next_word(text: &[u8]) -> &[u8]
 }
 
 // A word as a number of 32 bits.
-fn number(word: &[u8]) -> Read
+fn number(word: &[u8]) -> Option<usize>
     ensures { result ≡ number_of word.now }
 {
-    if word.len() == 0 {
-        return Read::NoNumber;
+    if word.is_empty() {
+        return None;
     }
     let mut n = 0;
-    for i in 0..word.len() {
-        let b = word[i];
-        if !digit(b) {
-            return Read::NoNumber;
+    for &b in word {
+        if !b.is_ascii_digit() {
+            return None;
         }
-        n = 10 * n + (b - 48) as usize;
+        n = 10 * n + (b - b'0') as usize;
         if n >= 4294967296 {
-            return Read::NoNumber;
+            return None;
         }
     }
-    Read::Number(n)
+    Some(n)
 }
 
 // What a line says.
@@ -129,10 +113,10 @@ pub fn entry(line: &[u8]) -> Entry
     if rest.len() != 0 {
         return Entry::NoPair;
     }
-    let Read::Number(start) = number(up_to(Stop::Blank, first)) else {
+    let Some(start) = number(up_to(Stop::Blank, first)) else {
         return Entry::NoPair;
     };
-    let Read::Number(end) = number(up_to(Stop::Blank, second)) else {
+    let Some(end) = number(up_to(Stop::Blank, second)) else {
         return Entry::NoPair;
     };
     Entry::Transfer(start, end)

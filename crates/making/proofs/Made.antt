@@ -7,20 +7,19 @@ use native.Mathlib.Omega.{arith}
 use borrow.Author.Count.{below_more}
 use borrow.Author.Tests.{ltb-false}
 use lib.Dec.{T}
-use lib.ListN.{length, get_or, set}
+use lib.ListN.{length, get_or, set, length-set}
 use lib.Seq.{get_or-set_same, get_or-set_other, ext_get_or}
+use Rattle.std.specs.Int.{w64, to_le_bytes}
+use Rattle.std.proofs.Common.{◌++◌, take}
+use Rattle.std.proofs.lemmas.List.{get_or_append_left, get_or-append_right, get_or-take, length-take-le}
 use Rattle.mesh.specs.Tools.{table}
-use Rattle.mesh.specs.Fill.{Filled}
 use Rattle.mesh.specs.Mesh.{nodes, number, place_of, Inside}
 use Rattle.mesh.specs.Steps.{next}
 use Rattle.mesh.specs.Cells.{Map, map_of, faulty_cell, cell_limit, bad_cell, wall, state_length}
-use Rattle.mesh.specs.Answers.{check_map}
+use Rattle.mesh.specs.Answers.{check_map, accepted}
 use Rattle.rules.specs.Marks.{is_word, rule_byte, read_by, read_at}
 use Rattle.mesh.specs.declared.Sizes.{Sizes}
 use Rattle.mesh.specs.declared.Place.{Place}
-use Rattle.mesh.specs.declared.Next.{Next}
-use Rattle.mesh.specs.declared.Next.TheVariants.{At, Edge}
-use Rattle.mesh.specs.declared.Answer.TheVariants.{Done}
 use Rattle.mesh.proofs.Tests.{cond_true}
 use Rattle.mesh.proofs.Tables.{length_table, get_d_table}
 use Rattle.mesh.proofs.Numbers.{number_of, number_lt}
@@ -34,16 +33,41 @@ use Rattle.states.proofs.Packed.{six_ones}
 use Rattle.states.proofs.Beside.{bytes_six}
 use Rattle.states.proofs.Around.{around_read}
 use Rattle.states.proofs.Heard.{faulty_byte, quick_is}
+use Rattle.std.specs.Prelude.{Some, None, Option}
 
 -- ---- a node's seven bytes
 
--- the bytes of a number in their order, and then the own byte
-pub put_seven : (s t : List ℕ) (k o n : ℕ) → 7 * k + 7 ≤ length s → Filled (λ j. 7 * k + 1 + j) (byte_at n) s t 6 → Put s (set t (7 * k) o) k o (byte_at n)
-put_seven s t k o n l F = record {
-  owned = get_or-set_same t (7 * k) o 0 (omega (arith, F.size));
-  told = λ j h. get_or-set_other t (7 * k) (7 * k + 1 + j) o 0 (omega arith) ∙ F.at j h;
-  kept = λ i h. get_or-set_other t (7 * k) i o 0 (omega arith) ∙ F.kept i λ j g e. omega arith;
+-- the bytes of a number, the lowest first
+le_byte : (n j : ℕ) → j < 6 → get_or (take 6 (to_le_bytes w64 n)) j 0 ≡ byte_at n j
+le_byte n zero h = refl
+le_byte n (suc zero) h = refl
+le_byte n (suc (suc zero)) h = omega arith
+le_byte n (suc (suc (suc zero))) h = omega arith
+le_byte n (suc (suc (suc (suc zero)))) h = omega arith
+le_byte n (suc (suc (suc (suc (suc zero))))) h = omega arith
+le_byte n (suc (suc (suc (suc (suc (suc j)))))) h = absurd (omega arith)
+
+-- the own byte, and after it the six of a number
+pub put_seven : (s bytes rest : List ℕ) (k o n : ℕ) → 7 * k + 7 ≤ length s → bytes ≡ take 6 (to_le_bytes w64 n)
+    → Put s (take (7 * k + 1) (set s (7 * k) o) ++ (bytes ++ rest)) k o (byte_at n)
+put_seven s bytes rest k o n l e = record {
+  owned = low (7 * k) (omega arith) ∙ get_or-set_same s (7 * k) o 0 (omega arith);
+  told = λ j h. get_or-append_right front (bytes ++ rest) (7 * k + 1) (7 * k + 1 + j) 0 front_long (omega arith)
+      ∙ ap (λ (i : ℕ). get_or (bytes ++ rest) i 0) (omega arith)
+      ∙ get_or_append_left bytes rest 0 j (omega (arith, ap length e))
+      ∙ ap (λ (b : List ℕ). get_or b j 0) e
+      ∙ le_byte n j h;
+  kept = λ i h. low i (omega arith) ∙ get_or-set_other s (7 * k) i o 0 (λ e. omega arith);
 }
+  where
+    front : List ℕ
+    front = take (7 * k + 1) (set s (7 * k) o)
+
+    front_long : length front ≡ 7 * k + 1
+    front_long = length-take-le (7 * k + 1) (set s (7 * k) o) (omega (arith, length-set s (7 * k) o))
+
+    low : (i : ℕ) → i < 7 * k + 1 → get_or (front ++ (bytes ++ rest)) i 0 ≡ get_or (set s (7 * k) o) i 0
+    low i h = get_or_append_left front (bytes ++ rest) 0 i (omega (arith, front_long)) ∙ get_or-take (7 * k + 1) (set s (7 * k) o) i 0 h
 
 -- one node more is done
 node_done : (m : Map) (o k : ℕ) (s v : List ℕ) (b : ℕ) (h : ℕ → ℕ) → Fresh m o k s → length v ≡ length s → Put s v k b h
@@ -70,22 +94,22 @@ module _ (S : Sizes) (cells : List ℕ) where
   cell_is (suc zero) h = refl
   cell_is (suc (suc c)) h = absurd (omega arith)
 
-  cell_le : check_map S cells ≡ Done → (k : ℕ) → k < nodes S → get_or cells k 0 ≤ 1
+  cell_le : check_map S cells ≡ accepted → (k : ℕ) → k < nodes S → get_or cells k 0 ≤ 1
   unfolding bad_cell
   cell_le ok k h =
       let g = map_granted S cells ok in
       ltb-false cell_limit (get_or cells k 0) (g.good k (omega (arith, g.whole)))
 
-  cell_read : check_map S cells ≡ Done → (p : Place) (j : ℕ) (q : Place) → Inside S q → read_by m (λ q. 0) p j (At q) ≡ first_byte cells 1 (number S q)
+  cell_read : check_map S cells ≡ accepted → (p : Place) (j : ℕ) (q : Place) → Inside S q → read_by m (λ q. 0) p j (Some q) ≡ first_byte cells 1 (number S q)
   unfolding wall
   cell_read ok p j q i =
       let k = number S q in
       cell_is (get_or cells k 0) (cell_le ok k (number_lt S q i)) ∙ ap (λ (n : ℕ). get_or cells n 0) (omega arith)
 
-  first_heard : (p : Place) (j : ℕ) (n : Next) → T (is_heard (read_by m (λ q. 0) p j n))
+  first_heard : (p : Place) (j : ℕ) (n : Option Place) → T (is_heard (read_by m (λ q. 0) p j n))
   unfolding is_heard is_own is_word
-  first_heard p j Edge = tt
-  first_heard p j (At q) = go (wall m p j q)
+  first_heard p j None = tt
+  first_heard p j (Some q) = go (wall m p j q)
     where
       go : (t : Bool) → T (is_heard (cond t 1 0))
       go true = tt
@@ -93,17 +117,17 @@ module _ (S : Sizes) (cells : List ℕ) where
 
   module _ (o k : ℕ) (s t : List ℕ) (F : Fresh m o k s) (g : length t ≡ length s) where
     -- a faulty node
-    pub failed_done : (v : ℕ) → ((m : Map) (p : Place) (j : ℕ) → v ≡ faulty_hears m p j) → T (faulty_cell (get_or cells k 0))
-        → Put s t k 1 (byte_at (v * ones)) → Fresh m o (k + 1) t
+    pub failed_done : (v n : ℕ) → ((m : Map) (p : Place) (j : ℕ) → v ≡ faulty_hears m p j) → n ≡ v * ones → T (faulty_cell (get_or cells k 0))
+        → Put s t k 1 (byte_at n) → Fresh m o (k + 1) t
     unfolding fresh_own fresh_heard
-    failed_done v f w P = node_done m o k s t 1 (byte_at (v * ones)) F g P
+    failed_done v n f e w P = node_done m o k s t 1 (byte_at n) F g P
         (rw (faulty_is k) (sym (cond_true (faulty_cell (get_or cells k 0)) 1 (rule_byte S o (fresh_heard m k)) w)))
-        λ j h. bytes_six (v * ones) (λ j. v) (λ j. rw (f m (place_of S k) 0) (faulty_byte m (place_of S k) 0)) (sym (six_ones v)) j h
+        λ j h. bytes_six n (λ j. v) (λ j. rw (f m (place_of S k) 0) (faulty_byte m (place_of S k) 0)) (e ∙ sym (six_ones v)) j h
         ∙ f m (place_of S k) j
         ∙ (rw (faulty_is k) (sym (cond_true (faulty_cell (get_or cells k 0)) (faulty_hears m (place_of S k) j) (read_at m (λ q. 0) (place_of S k) j) w)))
 
     -- a working node
-    pub working_done : check_map S cells ≡ Done → k < nodes S → faulty_cell (get_or cells k 0) ≡ false → (n b : ℕ)
+    pub working_done : check_map S cells ≡ accepted → k < nodes S → faulty_cell (get_or cells k 0) ≡ false → (n b : ℕ)
         → n ≡ six (around S (first_byte cells 1) k) → Bytes (around S (first_byte cells 1) k) → b ≡ quick_rule S o (byte_at n)
         → Put s t k b (byte_at n) → Fresh m o (k + 1) t
     unfolding fresh_own fresh_heard
@@ -123,9 +147,6 @@ module _ (S : Sizes) (cells : List ℕ) where
             ∙ (rw (faulty_is k, w))
 
 -- ---- all nodes
-
-pub fresh_none : (m : Map) (o : ℕ) (s : List ℕ) → length s ≡ state_length m.sizes → Fresh m o 0 s
-fresh_none m o s e = record { long = e; owns = λ k h. absurd (omega arith); hears = λ k j h c. absurd (omega arith) }
 
 module _ (m : Map) (o : ℕ) (s : List ℕ) (F : Fresh m o (nodes m.sizes) s) where
   byte_is : (k r i : ℕ) → k < nodes m.sizes → r < 7 → i ≡ 7 * k + r → get_or s i 0 ≡ fresh_byte m o k r

@@ -6,21 +6,21 @@ use native.Mathlib.Omega.{arith}
 use lib.ListN.{length, drop, length-append}
 use Rattle.mesh.specs.Mesh.{nodes}
 use Rattle.mesh.specs.declared.Sizes.{Sizes}
-use Rattle.mesh.specs.declared.Answer.TheVariants.{Done}
 use Rattle.format.specs.Format.{distance, trailer, cells_in}
 use Rattle.format.specs.Entry.{read_check, read_written, read_out, write_check, write_written, write_out}
 use Rattle.format.proofs.Order.{read_passes}
 use Rattle.format.proofs.Refusals.{cells_size, write_says}
 use Rattle.octets.specs.Stored.{stored}
 use Rattle.octets.proofs.Stored.{stored_next, stored_front}
+use Rattle.mesh.specs.Answers.{accepted}
 
-pub read_stored : (file out : List ℕ) → read_check file (length out) ≡ Done → stored out 0 (cells_in file) ≡ read_out file out
+pub read_stored : (file out : List ℕ) → read_check file (length out) ≡ accepted → stored out 0 (cells_in file) ≡ read_out file out
 unfolding read_written
 read_stored file out e =
     let (f, (s, (r, _))) = (read_passes file (length out)).0 e in
     rw e (stored_front out (cells_in file) ∙ ap (λ (n : ℕ). cells_in file ++ drop n out) (cells_size file r.inside))
 
-pub write_stored : (S : Sizes) (cells out : List ℕ) → write_check S cells (length out) ≡ Done
+pub write_stored : (S : Sizes) (cells out : List ℕ) → write_check S cells (length out) ≡ accepted
     → stored (stored out 0 cells) (nodes S) (trailer S) ≡ write_out S cells out
 unfolding write_written trailer
 write_stored S cells out e =

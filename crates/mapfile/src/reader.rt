@@ -4,9 +4,8 @@ ghost use Rattle.format.specs.Format.{trailer_at, has_mark, sizes_in, distance_i
 ghost use Rattle.format.specs.Entry.{check_frame, check_trailer, read_check, read_answer, read_out};
 
 use crate::{FILE_LIMIT, MARK, TRAILER};
-use format::MapRead;
 use maps::check_map;
-use mesh::{Answer, Refusal, Sizes};
+use mesh::{Refusal, Sizes};
 use octets::{little_endian, put};
 
 // Byte i of the trailer.
@@ -22,8 +21,8 @@ fn has_mark(file: &[u8]) -> bool
     requires { 12 ≤ length file.now }
     ensures { result ≡ has_mark file.now }
 {
-    for i in 0..4 {
-        if trailer_at(file, 8 + i) != MARK[i] {
+    for (i, &byte) in MARK.iter().enumerate() {
+        if trailer_at(file, 8 + i) != byte {
             return false;
         }
     }
@@ -65,67 +64,62 @@ fn cells_in(file: &[u8], n: usize) -> &[u8]
 }
 
 // Length, mark and zero byte.
-fn check_frame(file: &[u8]) -> Answer
+#[tactic(auto, using(format::proofs::Refusals::between_least), unfolding(format::specs::Entry::check_frame))]
+fn check_frame(file: &[u8]) -> Result<(), Refusal>
     ensures { result ≡ check_frame file.now }
 {
     let fits = (TRAILER <= file.len()) & (file.len() <= FILE_LIMIT);
     if !fits {
-        return Answer::Refused(Refusal::BadFile);
+        return Err(Refusal::BadFile);
     }
     let framed = has_mark(file) & (trailer_at(file, 3) == 0);
     if !framed {
-        return Answer::Refused(Refusal::BadFile);
+        return Err(Refusal::BadFile);
     }
-    Answer::Done
+    Ok(())
 }
 
 // After these the sizes, and the distance.
-fn check_trailer(file: &[u8]) -> Answer
+#[tactic(auto, using(format::proofs::Refusals::frame_least, mesh::proofs::Answers::sizes_of), unfolding(format::specs::Entry::check_trailer))]
+fn check_trailer(file: &[u8]) -> Result<(), Refusal>
     ensures { result ≡ check_trailer file.now }
 {
-    let frame = check_frame(file);
-    let Answer::Done = frame else {
-        return frame;
-    };
+    check_frame(file)?;
     let s = sizes_in(file);
     if !s.in_range() {
-        return Answer::Refused(Refusal::BadSizes);
+        return Err(Refusal::BadSizes);
     }
     let distance = s.nodes() + TRAILER;
     let reaches = (distance_in(file) == distance) & (distance <= file.len());
     if !reaches {
-        return Answer::Refused(Refusal::BadFile);
+        return Err(Refusal::BadFile);
     }
-    Answer::Done
+    Ok(())
 }
 
 // After these the room, and the cells.
-fn check_file(file: &[u8], room: usize) -> Answer
+#[tactic(auto, using(format::proofs::Refusals::trailer_says, format::proofs::Refusals::read_cells, format::proofs::Refusals::cells_part), unfolding(format::specs::Entry::read_check))]
+fn check_file(file: &[u8], room: usize) -> Result<(), Refusal>
     ensures { result ≡ read_check file.now room }
 {
-    let trailer = check_trailer(file);
-    let Answer::Done = trailer else {
-        return trailer;
-    };
+    check_trailer(file)?;
     let s = sizes_in(file);
     let n = s.nodes();
     if n > room {
-        return Answer::Refused(Refusal::NoRoom);
+        return Err(Refusal::NoRoom);
     }
     check_map(s, cells_in(file, n))
 }
 
 // Reads a map file: its cells go to the front of the lent bytes. Refusals 11, 1, 11, 3, 4.
-pub fn read_map(file: &[u8], cells: &mut [u8]) -> MapRead
+#[tactic(auto, using(format::proofs::Order::read_passes, format::proofs::Refusals::cells_part, format::proofs::Refusals::cells_size, crate::proofs::Stored::read_stored), unfolding(format::specs::Entry::read_answer))]
+pub fn read_map(file: &[u8], cells: &mut [u8]) -> Result<Sizes, Refusal>
     ensures { (result ≡ read_answer file.now (length cells.old))
         × (cells.new ≡ read_out file.now cells.old) }
 {
-    let answer = check_file(file, cells.len());
-    if let Answer::Refused(r) = answer {
-        return MapRead::NotRead(r);
-    }
+    check_file(file, cells.len())?;
     let s = sizes_in(file);
     let n = s.nodes();
     put(cells_in(file, n), cells, 0);
-    MapRead::Read(s)
+    Ok(s)
 }

@@ -6,7 +6,7 @@ ghost use Rattle.format.specs.Entry.{write_check, write_answer, write_out};
 
 use crate::{MARK, TRAILER};
 use maps::check_map;
-use mesh::{Answer, Numbered, Refusal, Sizes};
+use mesh::{Refusal, Sizes};
 use octets::{four_bytes, put};
 
 // The trailer.
@@ -32,30 +32,26 @@ fn trailer(s: Sizes) -> [u8; 12]
 }
 
 // The map, and the room.
-fn check_write(s: Sizes, cells: &[u8], room: usize) -> Answer
+#[tactic(auto, using(mesh::proofs::Answers::map_granted), unfolding(format::specs::Entry::write_check))]
+fn check_write(s: Sizes, cells: &[u8], room: usize) -> Result<(), Refusal>
     ensures { result ≡ write_check s cells.now room }
 {
-    let map = check_map(s, cells);
-    let Answer::Done = map else {
-        return map;
-    };
+    check_map(s, cells)?;
     if s.nodes() + TRAILER > room {
-        return Answer::Refused(Refusal::NoRoom);
+        return Err(Refusal::NoRoom);
     }
-    Answer::Done
+    Ok(())
 }
 
 // Writes a map file without notes to the front of the lent bytes; its length. Refusals 1, 2, 4, 3.
-pub fn write_map(s: Sizes, cells: &[u8], out: &mut [u8]) -> Numbered
+#[tactic(auto, using(format::proofs::Refusals::write_says, crate::proofs::Stored::write_stored), unfolding(format::specs::Entry::write_answer))]
+pub fn write_map(s: Sizes, cells: &[u8], out: &mut [u8]) -> Result<usize, Refusal>
     ensures { (result ≡ write_answer s cells.now (length out.old))
         × (out.new ≡ write_out s cells.now out.old) }
 {
-    let answer = check_write(s, cells, out.len());
-    if let Answer::Refused(r) = answer {
-        return Numbered::NotNumbered(r);
-    }
+    check_write(s, cells, out.len())?;
     let n = s.nodes();
     put(cells, out, 0);
     put(&trailer(s), out, n);
-    Numbered::Number(n + TRAILER)
+    Ok(n + TRAILER)
 }

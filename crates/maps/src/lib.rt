@@ -7,12 +7,13 @@ ghost use Rattle.mesh.specs.Mesh.{nodes};
 ghost use Rattle.mesh.specs.Cells.{faulty_cell, may_pass, may_end, bad_cell, first_bad};
 ghost use Rattle.mesh.specs.Answers.{check_map};
 
-use mesh::{Answer, Refusal, Sizes};
+use mesh::{Refusal, Sizes};
 
 // The greatest byte that is a cell.
 const CELL_LIMIT: u8 = 1;
 
 // Does the node count as faulty?
+#[tactic(auto, unfolding(mesh::specs::Cells::faulty_cell))]
 pub fn faulty_cell(cell: u8) -> bool
     ensures { result ≡ faulty_cell cell }
 {
@@ -23,10 +24,11 @@ pub fn faulty_cell(cell: u8) -> bool
 pub fn faulty_bit(cell: u8) -> u8
     ensures { result ≡ bit (faulty_cell cell) }
 {
-    if faulty_cell(cell) { 1 } else { 0 }
+    faulty_cell(cell) as u8
 }
 
 // May a path pass through the node?
+#[tactic(auto, unfolding(mesh::specs::Cells::may_pass))]
 pub fn may_pass(cell: u8) -> bool
     ensures { result ≡ may_pass cell }
 {
@@ -34,6 +36,7 @@ pub fn may_pass(cell: u8) -> bool
 }
 
 // May a path start or end at the node?
+#[tactic(auto, unfolding(mesh::specs::Cells::may_end))]
 pub fn may_end(cell: u8) -> bool
     ensures { result ≡ may_end cell }
 {
@@ -41,6 +44,7 @@ pub fn may_end(cell: u8) -> bool
 }
 
 // Is the byte no cell for node k? So far all nodes have the same cells.
+#[tactic(auto, unfolding(mesh::specs::Cells::bad_cell))]
 fn bad_cell(s: Sizes, k: usize, cell: u8) -> bool
     ensures { result ≡ bad_cell s k cell }
 {
@@ -51,15 +55,14 @@ fn bad_cell(s: Sizes, k: usize, cell: u8) -> bool
 fn any_bad(s: Sizes, cells: &[u8]) -> bool
     ensures { result ≡ ltb (first_bad (bad_cell s) cells.now) (length cells.now) }
 {
-    let n = cells.len();
     let mut bad = false;
-    for k in 0..n {
-        bad = bad_cell(s, k, cells[k]) | bad;
+    for (k, &cell) in cells.iter().enumerate() {
+        bad |= bad_cell(s, k, cell);
     }
     bad
 }
 
-// The number of the first bad cell, z outermost; the count of nodes where there is none.
+// The number of the first bad cell, z outermost; the count of nodes where there is none. No `position`: 01, "Forms for each place", names this form.
 fn first_bad(s: Sizes, cells: &[u8]) -> usize
     requires { length cells.now ≡ nodes s }
     ensures { result ≡ first_bad (bad_cell s) cells.now }
@@ -80,18 +83,18 @@ fn first_bad(s: Sizes, cells: &[u8]) -> usize
 
 // Refusals 1, 2 and 4.
 #[tactic(auto, using(mesh::proofs::Answers::sizes_of, mesh::proofs::Answers::map_1))]
-pub fn check_map(s: Sizes, cells: &[u8]) -> Answer
+pub fn check_map(s: Sizes, cells: &[u8]) -> Result<(), Refusal>
     ensures { result ≡ check_map s cells.now }
 {
     if !s.in_range() {
-        return Answer::Refused(Refusal::BadSizes);
+        return Err(Refusal::BadSizes);
     }
     if cells.len() != s.nodes() {
-        return Answer::Refused(Refusal::BadLength);
+        return Err(Refusal::BadLength);
     }
     if any_bad(s, cells) {
         let k = first_bad(s, cells);
-        return Answer::Refused(Refusal::BadCell(k));
+        return Err(Refusal::BadCell(k));
     }
-    Answer::Done
+    Ok(())
 }

@@ -10,7 +10,11 @@ use borrow.Author.Count.{below_more}
 use borrow.Author.Tests.{leb-true, leb-false}
 use lib.Bits.{bit_and, bit_or, or_add_and, and_le_l, and_le_r}
 use lib.Dec.{T, ltb}
-use lib.ListN.{get_or}
+use lib.ListN.{length, get_or, take, drop, length-take, length-drop}
+use lib.Seq.{get_or-drop}
+use Rattle.std.specs.List.{zip}
+use Rattle.std.proofs.lemmas.List.{get_or-take, get_or_default}
+use Rattle.std.proofs.lemmas.Slice.Zip.{length-zip, get_or-zip}
 use Rattle.mesh.specs.Tools.{bit}
 use Rattle.mesh.specs.Mesh.{Axis, X, Y, Z, on, place, nodes, number, InRange, Inside}
 use Rattle.mesh.specs.Steps.{runs_down}
@@ -50,6 +54,44 @@ apart_more cells p q r i met x y z before ex ey ez e =
   where
     one : (k : ℕ) → T (faulty_cell (get_or cells k 0)) → bit (faulty_cell (get_or cells k 0)) ≡ 1
     one k t = ap bit ((holds_true (faulty_cell (get_or cells k 0))).0 t)
+
+-- ---- the three stretches, side by side
+
+abbrev pub stretch : List ℕ → ℕ → ℕ → List ℕ
+stretch cells n p = take (p + n - p) (drop p cells)
+
+abbrev pub three : List ℕ → ℕ → ℕ → ℕ → ℕ → List ((ℕ × ℕ) × ℕ)
+three cells p q r n = zip (zip (stretch cells n p) (stretch cells n q)) (stretch cells n r)
+
+module _ (cells : List ℕ) (n : ℕ) where
+  stretch_long : (p : ℕ) → p + n ≤ length cells → length (stretch cells n p) ≡ n
+  stretch_long p h = omega (arith, length-take (p + n - p) (drop p cells), length-drop p cells)
+
+  stretch_at : (p i d : ℕ) → p + n ≤ length cells → i < n → get_or (stretch cells n p) i d ≡ get_or cells (p + i) 0
+  stretch_at p i d h l =
+      get_or-take (p + n - p) (drop p cells) i d (omega arith) ∙ get_or-drop p cells i d ∙ get_or_default cells (p + i) d 0 (omega arith)
+
+  module _ (p q r : ℕ) (hp : p + n ≤ length cells) (hq : q + n ≤ length cells) (hr : r + n ≤ length cells) where
+    pub three_long : length (three cells p q r n) ≡ n
+    three_long =
+        let both = zip (stretch cells n p) (stretch cells n q) in
+        omega (arith, length-zip both (stretch cells n r), length-zip (stretch cells n p) (stretch cells n q), stretch_long p hp, stretch_long q hq, stretch_long r hr)
+
+    pub three_at : (i : ℕ) (t : (ℕ × ℕ) × ℕ) → i < n → t ≡ get_or (three cells p q r n) i t
+        → (t.0.0 ≡ get_or cells (p + i) 0) × (t.0.1 ≡ get_or cells (q + i) 0) × (t.1 ≡ get_or cells (r + i) 0)
+    three_at i t l e =
+        let both = zip (stretch cells n p) (stretch cells n q) in
+        let lp = stretch_long p hp in
+        let lq = stretch_long q hq in
+        let lr = stretch_long r hr in
+        let outer = get_or-zip both (stretch cells n r) i t (omega (arith, lp, lq, length-zip (stretch cells n p) (stretch cells n q))) (omega (arith, lr)) in
+        let inner = get_or-zip (stretch cells n p) (stretch cells n q) i t.0 (omega (arith, lp)) (omega (arith, lq)) in
+        let at : t ≡ ((get_or (stretch cells n p) i t.0.0, get_or (stretch cells n q) i t.0.1), get_or (stretch cells n r) i t.1) =
+        e ∙ outer ∙ ap (λ (b : ℕ × ℕ). (b, get_or (stretch cells n r) i t.1)) inner in (
+          ap (λ (t : (ℕ × ℕ) × ℕ). t.0.0) at ∙ stretch_at p i t.0.0 hp l,
+          ap (λ (t : (ℕ × ℕ) × ℕ). t.0.1) at ∙ stretch_at q i t.0.1 hq l,
+          ap (λ (t : (ℕ × ℕ) × ℕ). t.1) at ∙ stretch_at r i t.1 hr l,
+        )
 
 -- ---- where the stretches begin, and how far on a neighbour lies in them
 

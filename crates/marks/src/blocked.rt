@@ -47,9 +47,12 @@ fn meet(cells: &[u8], n: usize, p: usize, q: usize, r: usize) -> bool
     ensures { result ≡ false → Apart cells.now p q r n }
 {
     let mut met = 0u8;
-    for i in 0..n {
-        met = met
-            | (faulty_bit(cells[p + i]) & faulty_bit(cells[q + i]) & faulty_bit(cells[r + i]));
+    for ((&x, &y), &z) in cells[p..p + n]
+        .iter()
+        .zip(&cells[q..q + n])
+        .zip(&cells[r..r + n])
+    {
+        met |= faulty_bit(x) & faulty_bit(y) & faulty_bit(z);
     }
     met != 0
 }

@@ -3,26 +3,24 @@ ghost use Rattle.std.specs.Prelude.{◌≡◌, ◌≤◌, length};
 ghost use Rattle.rules.specs.Entry.{marks_answer, marks_written, marks_out};
 ghost use Rattle.marks.specs.Sweep.{Room};
 
-use crate::bytes::{clear, finish};
+use crate::bytes::finish;
 use crate::sweep::sweep;
 use maps::check_map;
-use mesh::{Answer, Refusal, Sizes};
+use mesh::{Refusal, Sizes};
 
 // Refusals 1, 2, 4, 5 and 3.
-fn marks_answer(s: Sizes, cells: &[u8], orientation: usize, room: usize) -> Answer
+#[tactic(auto, using(mesh::proofs::Answers::map_granted), unfolding(rules::specs::Entry::marks_answer))]
+fn marks_answer(s: Sizes, cells: &[u8], orientation: usize, room: usize) -> Result<(), Refusal>
     ensures { result ≡ marks_answer s cells.now orientation room }
 {
-    let a = check_map(s, cells);
-    let Answer::Done = a else {
-        return a;
-    };
+    check_map(s, cells)?;
     if orientation > 7 {
-        return Answer::Refused(Refusal::BadNumber);
+        return Err(Refusal::BadNumber);
     }
     if room < s.nodes() {
-        return Answer::Refused(Refusal::NoRoom);
+        return Err(Refusal::NoRoom);
     }
-    Answer::Done
+    Ok(())
 }
 
 // The marks of a map that is in order: useless is stuck in orientation o, can't-reach in the reversed one.
@@ -30,22 +28,19 @@ fn mark_all(s: Sizes, cells: &[u8], o: usize, out: &mut [u8])
     requires { Room s cells.now out.old × (o ≤ 7) }
     ensures { out.new ≡ marks_written s cells.now o out.old }
 {
-    let n = s.nodes();
-    clear(out, n);
+    out[..s.nodes()].fill(0);
     sweep(s, cells, o, 2, out);
     sweep(s, cells, 7 - o, 4, out);
-    finish(cells, out, n);
+    finish(cells, out);
 }
 
 // The mark bytes of the map, in node order, at the front of out.
-pub fn marks(s: Sizes, cells: &[u8], orientation: usize, out: &mut [u8]) -> Answer
+#[tactic(auto, using(rules::proofs::Entry::marks_granted))]
+pub fn marks(s: Sizes, cells: &[u8], orientation: usize, out: &mut [u8]) -> Result<(), Refusal>
     ensures value { result ≡ marks_answer s cells.now orientation (length out.old) }
     ensures out_after { out.new ≡ marks_out s cells.now orientation out.old }
 {
-    let a = marks_answer(s, cells, orientation, out.len());
-    let Answer::Done = a else {
-        return a;
-    };
+    marks_answer(s, cells, orientation, out.len())?;
     mark_all(s, cells, orientation, out);
-    a
+    Ok(())
 }

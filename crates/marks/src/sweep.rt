@@ -61,13 +61,11 @@ fn over(s: Sizes, cells: &[u8], g: Between, c: usize, rows: &mut [u16]) -> u16
     faulty_layer(s, cells, g, c, &mut faulty);
     let mut last: u16 = 0;
     let mut stuck: u16 = 0;
-    let mut b = 0;
-    while b < n {
-        let may = faulty[b] | (last & rows[b]);
-        last = sweep_row(may, faulty[b], may);
+    for (b, &dead) in faulty[..n].iter().enumerate() {
+        let may = dead | (last & rows[b]);
+        last = sweep_row(may, dead, may);
         rows[b] = last;
-        stuck = stuck | (last ^ faulty[b]);
-        b += 1;
+        stuck |= last ^ dead;
     }
     stuck
 }
@@ -92,8 +90,7 @@ pub(crate) fn sweep(s: Sizes, cells: &[u8], o: usize, v: u8, out: &mut [u8])
     }
     let g = whole(s, o);
     let mut rows = beyond(s);
-    let d = s.d;
-    for c in 0..d {
+    for c in 0..s.d {
         let stuck = over(s, cells, g, c, &mut rows);
         if stuck != 0 {
             add_layer(s, g, c, &rows, v, out);

@@ -12,36 +12,34 @@ use lib.Dec.{T, ltb, leb, eqb}
 use Rattle.mesh.specs.Tools.{any}
 use Rattle.mesh.specs.Mesh.{in_range, InRange, nodes, inside, Inside}
 use Rattle.mesh.specs.Cells.{bad_cell, first_bad}
-use Rattle.mesh.specs.Answers.{granted, ◌and_then◌, unless}
-use Rattle.mesh.specs.Answers.{check_sizes, check_cells, check_map, check_place, check_node, check_orientation, check_room}
+use Rattle.mesh.specs.Answers.{granted, ◌and_then◌, unless, accepted, Answer, check_sizes, check_cells, check_map, check_place, check_node, check_orientation, check_room}
 use Rattle.mesh.specs.declared.Sizes.{Sizes}
 use Rattle.mesh.specs.declared.Place.{Place}
 use Rattle.mesh.specs.declared.Refusal.{Refusal}
 use Rattle.mesh.specs.declared.Refusal.TheVariants.{BadSizes, BadLength, NoRoom, BadCell, BadNumber}
-use Rattle.mesh.specs.declared.Answer.{Answer}
-use Rattle.mesh.specs.declared.Answer.TheVariants.{Done, Refused}
 use Rattle.mesh.proofs.Tests.{T-and, T-any, T-le, T-lt, bool_ext, holds_true}
+use Rattle.std.specs.Prelude.{Ok, Err}
 
 -- ---- the first refusal stands
 
--- `let Answer::Done = a else { return a; };` leaves the equation a ≡ Refused r.
-pub stands : (a b : Answer) (r : Refusal) → a ≡ Refused r → a and_then b ≡ Refused r
+-- `let Answer::accepted = a else { return a; };` leaves the equation a ≡ Err r.
+pub stands : (a b : Answer) (r : Refusal) → a ≡ Err r → a and_then b ≡ Err r
 stands a b r e = rw e
 
 -- "No lent byte changes."
-pub kept : {A : Type 0} (a : Answer) (r : Refusal) (new old : List A) → a ≡ Refused r → granted a new old ≡ old
+pub kept : {A : Type 0} (a : Answer) (r : Refusal) (new old : List A) → a ≡ Err r → granted a new old ≡ old
 kept a r new old e = rw e
 
-pub refused : (a : Answer) → (a ≡ Done → ⊥) → (r : Refusal) × (a ≡ Refused r)
-refused Done n = absurd (n refl)
-refused (Refused r) n = (r, refl)
+pub refused : (a : Answer) → (a ≡ accepted → ⊥) → (r : Refusal) × (a ≡ Err r)
+refused (Ok _) n = absurd (n refl)
+refused (Err r) n = (r, refl)
 
 -- all is granted only if each is
-pub split : (a b : Answer) → a and_then b ≡ Done → (a ≡ Done) × (b ≡ Done)
-split Done b e = (refl, e)
-split (Refused r) b e = let z : ◌≡◌ {A = ℕ} 0 1 = cc in absurd (omega arith)
+pub split : (a b : Answer) → a and_then b ≡ accepted → (a ≡ accepted) × (b ≡ accepted)
+split (Ok _) b e = (refl, e)
+split (Err r) b e = let z : ◌≡◌ {A = ℕ} 0 1 = cc in absurd (omega arith)
 
-pub ok_of : (t : Bool) (r : Refusal) → unless t r ≡ Done → t ≡ true
+pub ok_of : (t : Bool) (r : Refusal) → unless t r ≡ accepted → t ≡ true
 ok_of true r e = refl
 ok_of false r e = let z : ◌≡◌ {A = ℕ} 0 1 = cc in absurd (omega arith)
 
@@ -70,19 +68,19 @@ inside_is S p i = (holds_true (inside S p)).0 (simp (T-and, T-lt) ((i.x_in, i.y_
 
 -- ---- what a check grants
 
-pub sizes_granted : (S : Sizes) → check_sizes S ≡ Done → InRange S
+pub sizes_granted : (S : Sizes) → check_sizes S ≡ accepted → InRange S
 sizes_granted S e = sizes_of S (ok_of (in_range S) BadSizes e)
 
-pub place_granted : (S : Sizes) (p : Place) → check_place S p ≡ Done → Inside S p
+pub place_granted : (S : Sizes) (p : Place) → check_place S p ≡ accepted → Inside S p
 place_granted S p e = inside_of S p (ok_of (inside S p) BadNumber e)
 
-pub node_granted : (S : Sizes) (k : ℕ) → check_node S k ≡ Done → k < nodes S
+pub node_granted : (S : Sizes) (k : ℕ) → check_node S k ≡ accepted → k < nodes S
 node_granted S k e = ltb-true k (nodes S) (ok_of (ltb k (nodes S)) BadNumber e)
 
-pub orientation_granted : (o : ℕ) → check_orientation o ≡ Done → o ≤ 7
+pub orientation_granted : (o : ℕ) → check_orientation o ≡ accepted → o ≤ 7
 orientation_granted o e = leb-true o 7 (ok_of (leb o 7) BadNumber e)
 
-pub room_granted : (need room : ℕ) → check_room need room ≡ Done → need ≤ room
+pub room_granted : (need room : ℕ) → check_room need room ≡ accepted → need ≤ room
 room_granted need room e = leb-true need room (ok_of (leb need room) NoRoom e)
 
 -- ---- the first bad cell: there is none below it, and it is bad
@@ -154,26 +152,26 @@ pub record Checked (S : Sizes) (cells : List ℕ) : Type 0 where
   pub good : NoneBelow (bad_cell S) cells (length cells)
 
 module _ (S : Sizes) (cells : List ℕ) where
-  pub map_1 : in_range S ≡ false → Refused BadSizes ≡ check_map S cells
+  pub map_1 : in_range S ≡ false → Err BadSizes ≡ check_map S cells
   unfolding check_map
   map_1 e = rw e
 
-  pub map_2 : in_range S ≡ true → eqb (length cells) (nodes S) ≡ false → Refused BadLength ≡ check_map S cells
+  pub map_2 : in_range S ≡ true → eqb (length cells) (nodes S) ≡ false → Err BadLength ≡ check_map S cells
   unfolding check_map
   map_2 e e2 = rw (e, e2)
 
   pub map_4 : in_range S ≡ true → eqb (length cells) (nodes S) ≡ true → ltb (first_bad (bad_cell S) cells) (length cells) ≡ true
-      → Refused (BadCell (first_bad (bad_cell S) cells)) ≡ check_map S cells
+      → Err (BadCell (first_bad (bad_cell S) cells)) ≡ check_map S cells
   unfolding check_map
   map_4 e e2 e4 = rw (e, e2, e4)
 
   pub map_0 : in_range S ≡ true → eqb (length cells) (nodes S) ≡ true → ltb (first_bad (bad_cell S) cells) (length cells) ≡ false
-      → Done ≡ check_map S cells
+      → accepted ≡ check_map S cells
   unfolding check_map
   map_0 e e2 e4 = rw (e, e2, e4)
 
   -- granted only if the map is in order
-  pub map_granted : check_map S cells ≡ Done → Checked S cells
+  pub map_granted : check_map S cells ≡ accepted → Checked S cells
   unfolding check_map
   map_granted e =
       let same = eqb (length cells) (nodes S) in
@@ -185,6 +183,6 @@ module _ (S : Sizes) (cells : List ℕ) where
         good = λ k h. first_below (bad_cell S) cells k (omega (arith, ltb-false (first_bad (bad_cell S) cells) (length cells) (none _ _ r)));
       }
     where
-      none : (t : Bool) (k : ℕ) → cond t (Refused (BadCell k)) Done ≡ Done → t ≡ false
+      none : (t : Bool) (k : ℕ) → cond t (Err (BadCell k)) accepted ≡ accepted → t ≡ false
       none true k e = let z : ◌≡◌ {A = ℕ} 0 1 = cc in absurd (omega arith)
       none false k e = refl

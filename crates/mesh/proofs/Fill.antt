@@ -7,7 +7,7 @@ use Prim.Native.Nat.{ℕ, ◌+◌, ◌-◌, ◌<◌, ◌≤◌}
 use native.Mathlib.Omega.{arith}
 use borrow.Author.Count.{below_more}
 use borrow.Author.Tests.{ltb-true, ltb-false}
-use lib.ListN.{length, get_or, set, drop, length-set, length-append, length-drop, get_or-append}
+use lib.ListN.{length, get_or, set, take, drop, replicate, length-set, length-take, length-append, length-drop, length-replicate, get_or-append, get_or-replicate}
 use lib.Seq.{get_or-set_same, get_or-set_other, get_or-append-add, get_or-drop, ext_get_or}
 use lib.Dec.{ltb}
 use Rattle.mesh.specs.Fill.{Filled}
@@ -41,6 +41,25 @@ module _ (l old : List ℕ) (n : ℕ) (e : length l ≡ n) where
 
   pub front_size : n ≤ length old → length (l ++ drop n old) ≡ length old
   front_size room = omega (arith, length-append l (drop n old), length-drop n old)
+
+-- v i stored at each i below n
+pub filled_front : (v : ℕ → ℕ) (old l : List ℕ) (n : ℕ) → n ≤ length old → length l ≡ n → ((i : ℕ) → i < n → get_or l i 0 ≡ v i) → Filled (λ i. i) v old (l ++ drop n old) n
+filled_front v old l n room e written = record {
+  at = λ i h. front_at l old n e i h ∙ written i h;
+  kept = λ k other. front_kept l old n e k (past k (ltb k n) refl other);
+  size = front_size l old n e room;
+}
+  where
+    past : (k : ℕ) (t : Bool) → ltb k n ≡ t → ((i : ℕ) → i < n → k ≡ i → ⊥) → n ≤ k
+    past k true h other = absurd (other k (ltb-true k n h) refl)
+    past k false h other = ltb-false k n h
+
+-- `fill`
+pub cleared : (old l : List ℕ) (n : ℕ) → n ≤ length old → l ≡ replicate (length (take n old)) 0 → Filled (λ i. i) (λ i. 0) old (l ++ drop n old) n
+cleared old l n room e =
+    let all : length (take n old) ≡ n = omega (arith, length-take n old) in
+    filled_front (λ i. 0) old l n room (ap length e ∙ length-replicate (length (take n old)) 0 ∙ all)
+    (λ i h. ap (λ (l : List ℕ). get_or l i 0) e ∙ get_or-replicate (length (take n old)) i 0 0 (omega (arith, all)))
 
 -- and nothing else is so
 pub front : (l old new : List ℕ) (n : ℕ) → length l ≡ n → n ≤ length old → length new ≡ length old

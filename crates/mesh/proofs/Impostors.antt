@@ -12,8 +12,8 @@ use Rattle.mesh.specs.Answers.{number_answer, place_answer, step_answer}
 use Rattle.mesh.specs.Promise.{NumberPromise, PlacePromise, StepPromise}
 use Rattle.mesh.specs.declared.Sizes.{Sizes}
 use Rattle.mesh.specs.declared.Place.{Place}
-use Rattle.mesh.specs.declared.Next.TheVariants.{Edge}
 use Rattle.mesh.proofs.Promise.{number_promise, number_only, place_promise, place_only, step_promise, step_only}
+use Rattle.std.specs.Prelude.{None}
 
 abbrev unlike : Sizes
 unlike = sizes 3 4 5
@@ -107,7 +107,7 @@ module _ (refusal there : Sizes → Place → ℕ → ℕ) (at : Sizes → Place
   step_constant t f = let a = f unlike (place 1 2 2) 3 in let b = f flat (place 4 0 0) 0 in omega (arith, goes.1, edge.1)
 
   -- the mesh's end as a refusal; a step that goes through it; one that stays where it is
-  pub step_end_refused : ((S : Sizes) (p : Place) (j : ℕ) → next S p j ≡ Edge → refusal S p j ≢ 0) → ⊥
+  pub step_end_refused : ((S : Sizes) (p : Place) (j : ℕ) → next S p j ≡ None → refusal S p j ≢ 0) → ⊥
   unfolding next
   step_end_refused f = f flat (place 4 0 0) 0 refl edge.0
 

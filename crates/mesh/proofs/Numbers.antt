@@ -32,9 +32,6 @@ nodes_le S r = mul-le-mul r.w_hi (mul-le-mul r.h_hi r.d_hi)
 pub rows_le : (S : Sizes) → InRange S → S.h * S.d ≤ 256
 rows_le S r = mul-le-mul r.h_hi r.d_hi
 
-pub layer_le : (S : Sizes) → InRange S → S.w * S.h ≤ 256
-layer_le S r = mul-le-mul r.w_hi r.h_hi
-
 pub number_lt : (S : Sizes) (p : Place) → Inside S p → number S p < nodes S
 number_lt S p i = digit_lt i.x_in (digit_lt i.y_in i.z_in)
 

@@ -12,15 +12,14 @@ use lib.Dec.{T, eqb, leb, ltb}
 use lib.ListN.{length, get_or}
 use Rattle.mesh.specs.Mesh.{in_range, InRange, nodes}
 use Rattle.mesh.specs.Cells.{bad_cell, first_bad}
-use Rattle.mesh.specs.Answers.{refusal_no, refusal_bad, answer_no, answer_bad, answer_value, numbered, numbered_no, numbered_bad, numbered_value, ◌and_then◌, unless, check_sizes, check_cells, check_map, check_node, check_orientation, check_room}
+use Rattle.mesh.specs.Answers.{refusal_no, refusal_bad, answer_no, answer_bad, answer_value, answered, numbered_value, ◌and_then◌, unless, check_sizes, check_cells, check_map, check_node, check_orientation, check_room, accepted, Answer}
 use Rattle.mesh.specs.Order.{Check, ◌else◌, ◌give◌, AllPass, NoneBad, FirstBad, map_checks, NamesBad}
 use Rattle.mesh.specs.declared.Sizes.{Sizes}
 use Rattle.mesh.specs.declared.Refusal.{Refusal}
 use Rattle.mesh.specs.declared.Refusal.TheVariants.{BadSizes, BadLength, NoRoom, BadCell, BadNumber, Unsound, NoPair, NotHeld, FaultyEnd, NoPath, BadFile}
-use Rattle.mesh.specs.declared.Answer.{Answer}
-use Rattle.mesh.specs.declared.Answer.TheVariants.{Done, Refused}
 use Rattle.mesh.proofs.Tests.{T-and, T-no, T-eq, T-le, T-lt, holds_true}
 use Rattle.mesh.proofs.Answers.{sizes_of, sizes_is, first_at, first_below, first_is}
+use Rattle.std.specs.Prelude.{Ok, Err}
 
 -- ---- numbers that checks give
 
@@ -95,8 +94,8 @@ last_passes (b ∷ cs) c =
 
 infix 4 ◌decide◌
 abbrev pub ◌decide◌ : List Check → Answer → Type 0
-[] decide a = a ≡ Done
-(c ∷ cs) decide a = ((c.must → ⊥) × ((r : Refusal) × (a ≡ Refused r) × (refusal_no r ≡ c.number))) ⊎ (c.must × (cs decide a))
+[] decide a = a ≡ accepted
+(c ∷ cs) decide a = ((c.must → ⊥) × ((r : Refusal) × (a ≡ Err r) × (refusal_no r ≡ c.number))) ⊎ (c.must × (cs decide a))
 
 pub gives : (cs : List Check) (a : Answer) → cs decide a → cs give answer_no a
 gives [] a d = rw d
@@ -104,7 +103,7 @@ gives (c ∷ cs) a (inl d) = let (r, e, n) = d.1 in inl (d.0, rw e n)
 gives (c ∷ cs) a (inr d) = inr (d.0, gives cs a d.1)
 
 -- done exactly if all pass
-pub all_pass : (cs : List Check) (a : Answer) → cs decide a → (a ≡ Done) ↔ AllPass cs
+pub all_pass : (cs : List Check) (a : Answer) → cs decide a → (a ≡ accepted) ↔ AllPass cs
 all_pass [] a d = (λ e. tt, λ p. d)
 all_pass (c ∷ cs) a (inl d) =
     let (r, f, n) = d.1 in
@@ -136,8 +135,8 @@ pub decides_both : (cs : List Check) (a : Answer) (t u : Bool) (r : Refusal) {P 
 decides_both cs a t u r {P} {Q} d p q = rw (grouped a) (decides_then cs ((P × Q) else refusal_no r ∷ []) a (unless t r and_then unless u r) d (decides_two t u r p q))
   where
     grouped : (a : Answer) → a and_then unless t r and_then unless u r ≡ a and_then (unless t r and_then unless u r)
-    grouped Done = refl
-    grouped (Refused r) = refl
+    grouped (Ok _) = refl
+    grouped (Err r) = refl
 
 pub sizes_decided : (S : Sizes) → InRange S else 1 ∷ [] decide check_sizes S
 sizes_decided S = decides_by (in_range S) BadSizes (λ t. sizes_of S ((holds_true (in_range S)).0 t), λ r. (holds_true (in_range S)).1 (sizes_is S r))
@@ -192,7 +191,7 @@ module _ (S : Sizes) (cells : List ℕ) where
   pub cells_decided : NoneBad S cells else 4 ∷ [] decide check_cells S cells
   cells_decided = go (ltb first (length cells)) refl
     where
-      go : (t : Bool) → ltb first (length cells) ≡ t → NoneBad S cells else 4 ∷ [] decide cond t (Refused (BadCell first)) Done
+      go : (t : Bool) → ltb first (length cells) ≡ t → NoneBad S cells else 4 ∷ [] decide cond t (Err (BadCell first)) accepted
       go true e = inl (λ g. let h = ltb-true first (length cells) e in let l = none_bad.1 g in omega arith, (BadCell first, refl, refl))
       go false e = inr (none_bad.0 (ltb-false first (length cells) e), refl)
 
@@ -209,8 +208,8 @@ module _ (S : Sizes) (cells : List ℕ) where
 
   pub bad_then : (a b : Answer) → NamesBad S cells (answer_no a) (answer_bad a) → NamesBad S cells (answer_no b) (answer_bad b)
       → NamesBad S cells (answer_no (a and_then b)) (answer_bad (a and_then b))
-  bad_then Done b h k = k
-  bad_then (Refused r) b h k = h
+  bad_then (Ok _) b h k = k
+  bad_then (Err r) b h k = h
 
   pub bad_unless : (t : Bool) (r : Refusal) → refusal_no r ≢ 4 → NamesBad S cells (answer_no (unless t r)) (answer_bad (unless t r))
   bad_unless true r n = (λ z. absurd (omega arith), λ _. refl)
@@ -228,7 +227,7 @@ module _ (S : Sizes) (cells : List ℕ) where
   bad_cells = go (ltb first (length cells)) refl
     where
       go : (t : Bool) → ltb first (length cells) ≡ t
-          → NamesBad S cells (answer_no (cond t (Refused (BadCell first)) Done)) (answer_bad (cond t (Refused (BadCell first)) Done))
+          → NamesBad S cells (answer_no (cond t (Err (BadCell first)) accepted)) (answer_bad (cond t (Err (BadCell first)) accepted))
       go true e = (λ _. first_is_bad (ltb-true first (length cells) e), λ n. absurd (n refl))
       go false e = (λ z. absurd (omega arith), λ _. refl)
 
@@ -265,16 +264,16 @@ not_zero NoPath e = omega arith
 not_zero BadFile e = omega arith
 
 -- so 0 tells that a call is granted
-pub done_of : (a : Answer) → answer_no a ≡ 0 → a ≡ Done
-done_of Done e = refl
-done_of (Refused r) e = absurd (not_zero r e)
+pub done_of : (a : Answer) → answer_no a ≡ 0 → a ≡ accepted
+done_of (Ok _) e = refl
+done_of (Err r) e = absurd (not_zero r e)
 
 -- and another number that it is refused
-pub refused_of : (a : Answer) → answer_no a ≢ 0 → (r : Refusal) × (a ≡ Refused r)
-refused_of Done n = absurd (n refl)
-refused_of (Refused r) n = (r, refl)
+pub refused_of : (a : Answer) → answer_no a ≢ 0 → (r : Refusal) × (a ≡ Err r)
+refused_of (Ok _) n = absurd (n refl)
+refused_of (Err r) n = (r, refl)
 
 -- an answer with a value has the number and the bad cell of its checks, and the value where they grant it
-pub numbered_as : (a : Answer) (n : ℕ) → (numbered_no (numbered a n) ≡ answer_no a) × (numbered_bad (numbered a n) ≡ answer_bad a) × (numbered_value (numbered a n) ≡ answer_value a n)
-numbered_as Done n = (refl, refl, refl)
-numbered_as (Refused r) n = (refl, refl, refl)
+pub numbered_as : (a : Answer) (n : ℕ) → (answer_no (answered a n) ≡ answer_no a) × (answer_bad (answered a n) ≡ answer_bad a) × (numbered_value (answered a n) ≡ answer_value a n)
+numbered_as (Ok _) n = (refl, refl, refl)
+numbered_as (Err r) n = (refl, refl, refl)

@@ -11,52 +11,45 @@ use lib.IntN.{ℤ, pos, negsuc, ◌+ℤ◌}
 use lib.Dec.{leb, ltb}
 use Rattle.mesh.specs.Mesh.{InRange, nodes, inside, Inside, place, number, place_of}
 use Rattle.mesh.specs.Steps.{step_of, on_axis, moved, together, next}
-use Rattle.mesh.specs.Answers.{numbered, numbered_no, numbered_value, placed, placed_no, placed_at, stepped, stepped_no, stepped_there, stepped_at}
-use Rattle.mesh.specs.Answers.{◌and_then◌, check_sizes, check_place, check_node, check_direction, number_answer, place_answer, step_answer}
+use Rattle.mesh.specs.Answers.{answered, answer_no, numbered_value, placed_at, stepped_there, stepped_at, accepted, Answer, ◌and_then◌, check_sizes, check_place, check_node, check_direction, number_answer, place_answer, step_answer}
 use Rattle.mesh.specs.Order.{Check, ◌else◌}
 use Rattle.mesh.specs.Promise.{NumberPromise, PlacePromise, OneStep, StepPromise}
 use Rattle.mesh.specs.declared.Sizes.{Sizes}
 use Rattle.mesh.specs.declared.Place.{Place}
-use Rattle.mesh.specs.declared.Next.{Next}
-use Rattle.mesh.specs.declared.Next.TheVariants.{At, Edge}
-use Rattle.mesh.specs.declared.Moved.{Moved}
-use Rattle.mesh.specs.declared.Moved.TheVariants.{To, Off}
 use Rattle.mesh.specs.declared.Refusal.TheVariants.{BadNumber}
-use Rattle.mesh.specs.declared.Placed.{Placed}
-use Rattle.mesh.specs.declared.Stepped.{Stepped}
-use Rattle.mesh.specs.declared.Answer.{Answer}
-use Rattle.mesh.specs.declared.Answer.TheVariants.{Done, Refused}
 use Rattle.mesh.proofs.Tests.{T-le, holds_true}
 use Rattle.mesh.proofs.Answers.{inside_of, inside_is}
 use Rattle.mesh.proofs.Numbers.{number_of, number_eq, place_in}
 use Rattle.mesh.proofs.Order.{one_number, ◌decide◌, gives, all_pass, decides_then, decides_by, sizes_decided, node_decided, not_zero}
+use Rattle.std.specs.Prelude.{Ok, Err, Some, None, Result, Option}
+use Rattle.mesh.specs.declared.Refusal.{Refusal}
 
 -- ---- a step, as the table says it
 
-on_axis_lem : (n : ℕ) (z : ℤ) (k : ℕ) → (on_axis n z ≡ To k) ↔ ((pos k ≡ z) × (k < n))
+on_axis_lem : (n : ℕ) (z : ℤ) (k : ℕ) → (on_axis n z ≡ Some k) ↔ ((pos k ≡ z) × (k < n))
 on_axis_lem n (pos m) k = go (ltb m n) refl
   where
-    go : (t : Bool) → ltb m n ≡ t → (cond t (To m) Off ≡ To k) ↔ ((pos k ≡ pos m) × (k < n))
-    go true e = (λ h. let z : m ≡ k = cc in (ap pos (sym z), subst (λ (k : ℕ). k < n) z (ltb-true m n e)), λ q. let z : k ≡ m = cc in ap To (sym z))
+    go : (t : Bool) → ltb m n ≡ t → (cond t (Some m) None ≡ Some k) ↔ ((pos k ≡ pos m) × (k < n))
+    go true e = (λ h. let z : m ≡ k = cc in (ap pos (sym z), subst (λ (k : ℕ). k < n) z (ltb-true m n e)), λ q. let z : k ≡ m = cc in ap Some (sym z))
     go false e = (λ h. let z : ◌≡◌ {A = ℕ} 0 1 = cc in absurd (omega arith), λ q. let z : k ≡ m = cc in let f = lt-ltb m n (subst (λ (k : ℕ). k < n) z q.1) in let x : ◌≡◌ {A = ℕ} 0 1 = cc in absurd (omega arith))
 on_axis_lem n (negsuc m) k = (λ h. let z : ◌≡◌ {A = ℕ} 0 1 = cc in absurd (omega arith), λ q. let z : ◌≡◌ {A = ℕ} 0 1 = cc in absurd (omega arith))
 
-all_three : (a b c : Moved) (q : Place) → (together a b c ≡ At q) ↔ ((a ≡ To q.x) × (b ≡ To q.y) × (c ≡ To q.z))
-all_three Off b c q = (λ h. let z : ◌≡◌ {A = ℕ} 0 1 = cc in absurd (omega arith), λ w. let h = w.0 in let z : ◌≡◌ {A = ℕ} 0 1 = cc in absurd (omega arith))
-all_three (To x) Off c q = (λ h. let z : ◌≡◌ {A = ℕ} 0 1 = cc in absurd (omega arith), λ w. let h = w.1 in let z : ◌≡◌ {A = ℕ} 0 1 = cc in absurd (omega arith))
-all_three (To x) (To y) Off q = (λ h. let z : ◌≡◌ {A = ℕ} 0 1 = cc in absurd (omega arith), λ w. let h = w.2 in let z : ◌≡◌ {A = ℕ} 0 1 = cc in absurd (omega arith))
-all_three (To x) (To y) (To z) q = (
-  λ h. let e : place x y z ≡ q = cc in (ap (λ (p : Place). To p.x) e, ap (λ (p : Place). To p.y) e, ap (λ (p : Place). To p.z) e),
+all_three : (a b c : Option ℕ) (q : Place) → (together a b c ≡ Some q) ↔ ((a ≡ Some q.x) × (b ≡ Some q.y) × (c ≡ Some q.z))
+all_three None b c q = (λ h. let z : ◌≡◌ {A = ℕ} 0 1 = cc in absurd (omega arith), λ w. let h = w.0 in let z : ◌≡◌ {A = ℕ} 0 1 = cc in absurd (omega arith))
+all_three (Some x) None c q = (λ h. let z : ◌≡◌ {A = ℕ} 0 1 = cc in absurd (omega arith), λ w. let h = w.1 in let z : ◌≡◌ {A = ℕ} 0 1 = cc in absurd (omega arith))
+all_three (Some x) (Some y) None q = (λ h. let z : ◌≡◌ {A = ℕ} 0 1 = cc in absurd (omega arith), λ w. let h = w.2 in let z : ◌≡◌ {A = ℕ} 0 1 = cc in absurd (omega arith))
+all_three (Some x) (Some y) (Some z) q = (
+  λ h. let e : place x y z ≡ q = cc in (ap (λ (p : Place). Some p.x) e, ap (λ (p : Place). Some p.y) e, ap (λ (p : Place). Some p.z) e),
   λ w.
       let (f, g, h) = w in
       let a : x ≡ q.x = cc in
       let b : y ≡ q.y = cc in
       let c : z ≡ q.z = cc in
-      λ i. At (place (a i) (b i) (c i)),
+      λ i. Some (place (a i) (b i) (c i)),
 )
 
 -- a step leads to q exactly if q is in the mesh and one step away
-pub step_iff : (S : Sizes) (p : Place) (j : ℕ) (q : Place) → j ≤ 5 → (next S p j ≡ At q) ↔ (Inside S q × OneStep p j q)
+pub step_iff : (S : Sizes) (p : Place) (j : ℕ) (q : Place) → j ≤ 5 → (next S p j ≡ Some q) ↔ (Inside S q × OneStep p j q)
 unfolding next
 step_iff S p j q l = rw (lt-ltb j 6 (omega arith)) (
   λ h.
@@ -89,47 +82,47 @@ module _ (S : Sizes) (p : Place) where
   in_mesh : place_checks decide (check_sizes S and_then check_place S p)
   in_mesh = decides_then (InRange S else 1 ∷ []) (Inside S p else 5 ∷ []) (check_sizes S) (check_place S p) (sizes_decided S) (place_decided S p)
 
-  pub number_promise : NumberPromise S p (numbered_no (number_answer S p)) (numbered_value (number_answer S p))
+  pub number_promise : NumberPromise S p (answer_no (number_answer S p)) (numbered_value (number_answer S p))
   unfolding number_answer
   number_promise = go (check_sizes S and_then check_place S p) in_mesh
     where
-      go : (a : Answer) → place_checks decide a → NumberPromise S p (numbered_no (numbered a (number S p))) (numbered_value (numbered a (number S p)))
-      go Done d = record { order = gives place_checks Done d; numbered = λ g. refl; nothing = λ n. absurd (n refl) }
-      go (Refused r) d = record { order = gives place_checks (Refused r) d; numbered = λ g. absurd (not_zero r g); nothing = λ n. refl }
+      go : (a : Answer) → place_checks decide a → NumberPromise S p (answer_no (answered a (number S p))) (numbered_value (answered a (number S p)))
+      go (Ok _) d = record { order = gives place_checks accepted d; numbered = λ g. refl; nothing = λ n. absurd (n refl) }
+      go (Err r) d = record { order = gives place_checks (Err r) d; numbered = λ g. absurd (not_zero r g); nothing = λ n. refl }
 
   module _ (j : ℕ) where
     abbrev step_checks : List Check
     step_checks = InRange S else 1 ∷ Inside S p else 5 ∷ (j ≤ 5) else 5 ∷ []
 
-    abbrev answered : Stepped → Type 0
-    answered a = StepPromise S p j (stepped_no a) (stepped_there a) (stepped_at a).x (stepped_at a).y (stepped_at a).z
+    abbrev promised : Result (Option Place) Refusal → Type 0
+    promised a = StepPromise S p j (answer_no a) (stepped_there a) (stepped_at a).x (stepped_at a).y (stepped_at a).z
 
-    pub step_promise : answered (step_answer S p j)
+    pub step_promise : promised (step_answer S p j)
     unfolding step_answer
     step_promise = go (check_sizes S and_then check_place S p and_then check_direction j)
         (decides_then place_checks ((j ≤ 5) else 5 ∷ []) (check_sizes S and_then check_place S p) (check_direction j) in_mesh (direction_decided j))
         (next S p j) refl
       where
-        go : (a : Answer) → step_checks decide a → (n : Next) → next S p j ≡ n → answered (stepped a n)
-        go Done d (At q) e = record {
-          order = gives step_checks Done d;
-          led = λ _ _. (step_iff S p j q ((all_pass step_checks Done d).0 refl).1.1.0).0 e;
+        go : (a : Answer) → step_checks decide a → (n : Option Place) → next S p j ≡ n → promised (answered a n)
+        go (Ok _) d (Some q) e = record {
+          order = gives step_checks accepted d;
+          led = λ _ _. (step_iff S p j q ((all_pass step_checks accepted d).0 refl).1.1.0).0 e;
           ends = λ _ n. absurd (n refl);
           nowhere = λ n. absurd (n refl);
           nothing = λ n. absurd (n refl);
         }
-        go Done d Edge e = record {
-          order = gives step_checks Done d;
+        go (Ok _) d None e = record {
+          order = gives step_checks accepted d;
           led = λ _ h. absurd (omega arith);
           ends = λ _ _ q i o.
-              let f = (step_iff S p j q ((all_pass step_checks Done d).0 refl).1.1.0).1 (i, o) in
+              let f = (step_iff S p j q ((all_pass step_checks accepted d).0 refl).1.1.0).1 (i, o) in
               let z : ◌≡◌ {A = ℕ} 0 1 = cc in
               absurd (omega arith);
           nowhere = λ n. (refl, refl, refl, refl);
           nothing = λ n. (refl, refl, refl, refl);
         }
-        go (Refused r) d n e = record {
-          order = gives step_checks (Refused r) d;
+        go (Err r) d n e = record {
+          order = gives step_checks (Err r) d;
           led = λ g _. absurd (not_zero r g);
           ends = λ g _. absurd (not_zero r g);
           nowhere = λ n. (refl, refl, refl, refl);
@@ -140,21 +133,21 @@ module _ (S : Sizes) (k : ℕ) where
   abbrev node_checks : List Check
   node_checks = InRange S else 1 ∷ (k < nodes S) else 5 ∷ []
 
-  abbrev found : Placed → Type 0
-  found a = PlacePromise S k (placed_no a) (placed_at a).x (placed_at a).y (placed_at a).z
+  abbrev found : Result Place Refusal → Type 0
+  found a = PlacePromise S k (answer_no a) (placed_at a).x (placed_at a).y (placed_at a).z
 
   pub place_promise : found (place_answer S k)
   unfolding place_answer
   place_promise = go (check_sizes S and_then check_node S k)
       (decides_then (InRange S else 1 ∷ []) ((k < nodes S) else 5 ∷ []) (check_sizes S) (check_node S k) (sizes_decided S) (node_decided S k))
     where
-      go : (a : Answer) → node_checks decide a → found (placed a (place_of S k))
-      go Done d = record {
-        order = gives node_checks Done d;
-        placed = λ g. (place_in S k ((all_pass node_checks Done d).0 refl).1.0, number_of S k);
+      go : (a : Answer) → node_checks decide a → found (answered a (place_of S k))
+      go (Ok _) d = record {
+        order = gives node_checks accepted d;
+        placed = λ g. (place_in S k ((all_pass node_checks accepted d).0 refl).1.0, number_of S k);
         nothing = λ n. absurd (n refl);
       }
-      go (Refused r) d = record { order = gives node_checks (Refused r) d; placed = λ g. absurd (not_zero r g); nothing = λ n. (refl, refl, refl) }
+      go (Err r) d = record { order = gives node_checks (Err r) d; placed = λ g. absurd (not_zero r g); nothing = λ n. (refl, refl, refl) }
 
 -- ---- and nothing else keeps it
 

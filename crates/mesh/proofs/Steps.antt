@@ -16,9 +16,7 @@ use Rattle.mesh.proofs.Tests.{T-all, T-every, T-eq, cond_true}
 use Rattle.mesh.proofs.Tables.{get_d_table}
 use Rattle.mesh.specs.declared.Sizes.{Sizes}
 use Rattle.mesh.specs.declared.Place.{Place}
-use Rattle.mesh.specs.declared.Next.{Next}
-use Rattle.mesh.specs.declared.Next.TheVariants.{At, Edge}
-use Rattle.mesh.specs.declared.Moved.TheVariants.{To, Off}
+use Rattle.std.specs.Prelude.{Some, None, Option}
 
 -- ---- the table: opposite directions cancel, computed once over all of it
 
@@ -82,50 +80,50 @@ put X p c = place c p.y p.z
 put Y p c = place p.x c p.z
 put Z p c = place p.x p.y c
 
-abbrev pub step_on : Sizes → Place → Axis → Bool → Next
-step_on S p a down = cond (room down (on p a) (span S a)) (At (put a p (go down (on p a)))) Edge
+abbrev pub step_on : Sizes → Place → Axis → Bool → Option Place
+step_on S p a down = cond (room down (on p a) (span S a)) (Some (put a p (go down (on p a)))) None
 
-stay : (c n : ℕ) → c < n → moved c (pos 0) n ≡ To c
+stay : (c n : ℕ) → c < n → moved c (pos 0) n ≡ Some c
 stay c n h = rw (add-zero, lt-ltb c n h)
 
-back : (c n : ℕ) → c < n → moved c (negsuc 0) n ≡ cond (ltb 0 c) (To (c - 1)) Off
+back : (c n : ℕ) → c < n → moved c (negsuc 0) n ≡ cond (ltb 0 c) (Some (c - 1)) None
 back zero n h = refl
 back (suc c) n h = rw (le-ltb (suc c) 1 (omega arith), lt-ltb 0 (suc c) (omega arith), lt-ltb (suc c - 1) n (omega arith))
 
-cond_x : (b : Bool) (x y z : ℕ) → together (cond b (To x) Off) (To y) (To z) ≡ cond b (At (place x y z)) Edge
+cond_x : (b : Bool) (x y z : ℕ) → together (cond b (Some x) None) (Some y) (Some z) ≡ cond b (Some (place x y z)) None
 cond_x true x y z = refl
 cond_x false x y z = refl
 
-cond_y : (b : Bool) (x y z : ℕ) → together (To x) (cond b (To y) Off) (To z) ≡ cond b (At (place x y z)) Edge
+cond_y : (b : Bool) (x y z : ℕ) → together (Some x) (cond b (Some y) None) (Some z) ≡ cond b (Some (place x y z)) None
 cond_y true x y z = refl
 cond_y false x y z = refl
 
-cond_z : (b : Bool) (x y z : ℕ) → together (To x) (To y) (cond b (To z) Off) ≡ cond b (At (place x y z)) Edge
+cond_z : (b : Bool) (x y z : ℕ) → together (Some x) (Some y) (cond b (Some z) None) ≡ cond b (Some (place x y z)) None
 cond_z true x y z = refl
 cond_z false x y z = refl
 
 module _ (S : Sizes) (p : Place) (i : Inside S p) where
-  stay_x : moved p.x (pos 0) S.w ≡ To p.x
+  stay_x : moved p.x (pos 0) S.w ≡ Some p.x
   stay_x = stay p.x S.w i.x_in
 
-  stay_y : moved p.y (pos 0) S.h ≡ To p.y
+  stay_y : moved p.y (pos 0) S.h ≡ Some p.y
   stay_y = stay p.y S.h i.y_in
 
-  stay_z : moved p.z (pos 0) S.d ≡ To p.z
+  stay_z : moved p.z (pos 0) S.d ≡ Some p.z
   stay_z = stay p.z S.d i.z_in
 
   -- the direction's own axis moves
-  pub next_x : (down : Bool) → together (moved p.x (step_of (along X down) 0) S.w) (To p.y) (To p.z) ≡ next S p (along X down)
+  pub next_x : (down : Bool) → together (moved p.x (step_of (along X down) 0) S.w) (Some p.y) (Some p.z) ≡ next S p (along X down)
   unfolding next
   next_x true = rw (stay_y, stay_z)
   next_x false = rw (stay_y, stay_z)
 
-  pub next_y : (down : Bool) → together (To p.x) (moved p.y (step_of (along Y down) 1) S.h) (To p.z) ≡ next S p (along Y down)
+  pub next_y : (down : Bool) → together (Some p.x) (moved p.y (step_of (along Y down) 1) S.h) (Some p.z) ≡ next S p (along Y down)
   unfolding next
   next_y true = rw (stay_x, stay_z)
   next_y false = rw (stay_x, stay_z)
 
-  pub next_z : (down : Bool) → together (To p.x) (To p.y) (moved p.z (step_of (along Z down) 2) S.d) ≡ next S p (along Z down)
+  pub next_z : (down : Bool) → together (Some p.x) (Some p.y) (moved p.z (step_of (along Z down) 2) S.d) ≡ next S p (along Z down)
   unfolding next
   next_z true = rw (stay_x, stay_y)
   next_z false = rw (stay_x, stay_y)
@@ -140,10 +138,10 @@ module _ (S : Sizes) (p : Place) (i : Inside S p) where
   next_along Z true = rw (stay_x, stay_y, back p.z S.d i.z_in) (cond_z (ltb 0 p.z) p.x p.y (p.z - 1))
 
   -- where a step leads
-  pub led : (a : Axis) (down : Bool) (q : Place) → next S p (along a down) ≡ At q → T (room down (on p a) (span S a)) × (q ≡ put a p (go down (on p a)))
+  pub led : (a : Axis) (down : Bool) (q : Place) → next S p (along a down) ≡ Some q → T (room down (on p a) (span S a)) × (q ≡ put a p (go down (on p a)))
   led a down q e = split (room down (on p a) (span S a)) (sym (next_along a down) ∙ e)
     where
-      split : (t : Bool) → cond t (At (put a p (go down (on p a)))) Edge ≡ At q → T t × (q ≡ put a p (go down (on p a)))
+      split : (t : Bool) → cond t (Some (put a p (go down (on p a)))) None ≡ Some q → T t × (q ≡ put a p (go down (on p a)))
       split true h = (tt, (cc))
       split false h = let z : ◌≡◌ {A = ℕ} 0 1 = cc in absurd (omega arith)
 
@@ -158,17 +156,17 @@ module _ (S : Sizes) (p : Place) (i : Inside S p) where
   put_in Z c h = record { x_in = i.x_in; y_in = i.y_in; z_in = h }
 
 -- the direction is one of the six where a step leads somewhere
-pub dir_led : (S : Sizes) (p q : Place) (j : ℕ) → next S p j ≡ At q → j < 6
+pub dir_led : (S : Sizes) (p q : Place) (j : ℕ) → next S p j ≡ Some q → j < 6
 unfolding next
 dir_led S p q j = split (ltb j 6) refl
   where
-    split : (t : Bool) → ltb j 6 ≡ t → cond t (together (moved p.x (step_of j 0) S.w) (moved p.y (step_of j 1) S.h) (moved p.z (step_of j 2) S.d)) Edge ≡ At q → j < 6
+    split : (t : Bool) → ltb j 6 ≡ t → cond t (together (moved p.x (step_of j 0) S.w) (moved p.y (step_of j 1) S.h) (moved p.z (step_of j 2) S.d)) None ≡ Some q → j < 6
     split true e h = ltb-true j 6 e
     split false e h = let z : ◌≡◌ {A = ℕ} 0 1 = cc in absurd (omega arith)
 
 module _ (S : Sizes) (p q : Place) (i : Inside S p) where
   -- a step stays in the mesh
-  pub next_in : (j : ℕ) → next S p j ≡ At q → Inside S q
+  pub next_in : (j : ℕ) → next S p j ≡ Some q → Inside S q
   next_in j e =
       let (a, down, k) = dir_of j (dir_led S p q j e) in
       let (t, f) = led S p i a down q (rw k at e) in
@@ -178,7 +176,7 @@ module _ (S : Sizes) (p q : Place) (i : Inside S p) where
       go_lt true c n t l = omega arith
       go_lt false c n t l = ltb→lt (c + 1) n t
 
-  returns_along : (a : Axis) (down : Bool) → next S p (along a down) ≡ At q → next S q (along a (not down)) ≡ At p
+  returns_along : (a : Axis) (down : Bool) → next S p (along a down) ≡ Some q → next S q (along a (not down)) ≡ Some p
   returns_along a down e =
       let (t, f) = led S p i a down q e in
       rw (next_along S q (next_in (along a down) e) a (not down), f) (back_again a down t)
@@ -197,13 +195,13 @@ module _ (S : Sizes) (p q : Place) (i : Inside S p) where
       go_back true c n t l = let h = ltb→lt 0 c t in (lt→ltb (c - 1 + 1) n (omega arith), omega arith)
       go_back false c n t l = (lt→ltb 0 (c + 1) (omega arith), omega arith)
 
-      back_again : (a : Axis) (down : Bool) → T (room down (on p a) (span S a)) → step_on S (put a p (go down (on p a))) a (not down) ≡ At p
+      back_again : (a : Axis) (down : Bool) → T (room down (on p a) (span S a)) → step_on S (put a p (go down (on p a))) a (not down) ≡ Some p
       back_again a down t =
           let (r, g) = go_back down (on p a) (span S a) t (inside_on S p i a) in
-          rw (on_put a (go down (on p a)), g, put_put a (go down (on p a))) (cond_true (room (not down) (go down (on p a)) (span S a)) (At p) Edge r)
+          rw (on_put a (go down (on p a)), g, put_put a (go down (on p a))) (cond_true (room (not down) (go down (on p a)) (span S a)) (Some p) None r)
 
   -- a step and the opposite step return
-  pub returns : (j : ℕ) → next S p j ≡ At q → next S q (opposite j) ≡ At p
+  pub returns : (j : ℕ) → next S p j ≡ Some q → next S q (opposite j) ≡ Some p
   returns j e =
       let (a, down, k) = dir_of j (dir_led S p q j e) in
       rw (k, opposite_along a down) (returns_along a down (rw k at e))
@@ -237,7 +235,7 @@ on_put X p c = refl
 on_put Y p c = refl
 on_put Z p c = refl
 
-same_along : (S : Sizes) (p r : Place) → Inside S p → (a b : Axis) (c d : Bool) → a ≡ b → next S p (along a c) ≡ At r → next S p (along b d) ≡ At r
+same_along : (S : Sizes) (p r : Place) → Inside S p → (a b : Axis) (c d : Bool) → a ≡ b → next S p (along a c) ≡ Some r → next S p (along b d) ≡ Some r
     → along a c ≡ along b d
 same_along S p r i a b c d f h k =
     let (t, q) = led S p i a c r h in
@@ -245,12 +243,12 @@ same_along S p r i a b c d f h k =
     let e : go c (on p a) ≡ go d (on p a) = sym (on_put a p (go c (on p a))) ∙ ap (λ (q : Place). on q a) (sym q ∙ w) ∙ on_put a p (go d (on p a)) in
     rw (f, same_way c d (on p a) (span S a) t u e)
 
-pub next_only : (S : Sizes) (p r : Place) → Inside S p → (j k : ℕ) → next S p j ≡ At r → next S p k ≡ At r → j ≡ k
+pub next_only : (S : Sizes) (p r : Place) → Inside S p → (j k : ℕ) → next S p j ≡ Some r → next S p k ≡ Some r → j ≡ k
 next_only S p r i j k h g =
     let (a, c, f) = dir_of j (dir_led S p r j h) in
     let (b, d, f') = dir_of k (dir_led S p r k g) in
-    let h' : next S p (along a c) ≡ At r = rw (← f) h in
-    let g' : next S p (along b d) ≡ At r = rw (← f') g in
+    let h' : next S p (along a c) ≡ Some r = rw (← f) h in
+    let g' : next S p (along b d) ≡ Some r = rw (← f') g in
     let (t, q) = led S p i a c r h' in
     let (u, w) = led S p i b d r g' in
     let z = same_axis a b p (go c (on p a)) (go d (on p b)) (moves c (on p a) (span S a) t) (sym q ∙ w) in

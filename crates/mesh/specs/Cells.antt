@@ -1,7 +1,7 @@
 -- A map, and the questions that its cells answer. Later versions change what stands behind a question, and nothing else. Assumes nothing.
-use Rattle.std.specs.Prelude.{Bool, cond, not, List, [], ◌∷◌, ℕ, suc, ◌*◌, get_or, ltb, eqb}
+use Rattle.std.specs.Prelude.{Bool, cond, not, List, [], ◌∷◌, ℕ, suc, ◌*◌, get_or, ltb, eqb, is_some}
 use Rattle.mesh.specs.Mesh.{nodes, number}
-use Rattle.mesh.specs.Steps.{next, is_at}
+use Rattle.mesh.specs.Steps.{next}
 use Rattle.mesh.specs.declared.Sizes.{Sizes}
 use Rattle.mesh.specs.declared.Place.{Place}
 
@@ -47,7 +47,7 @@ wall m p j q = faulty m q
 
 -- may a hop or a word cross from p in direction j
 unfoldable pub linked : Map → Place → ℕ → Bool
-linked m p j = is_at (next m.sizes p j)
+linked m p j = is_some (next m.sizes p j)
 
 -- "On a map with other bytes, the answer names the first bad cell in node order": its number, or how many cells there are
 unfoldable pub first_bad : (ℕ → ℕ → Bool) → List ℕ → ℕ

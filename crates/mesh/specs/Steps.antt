@@ -1,12 +1,8 @@
 -- 01, "Size and numbering": the six unit steps, directions and orientations. Assumes nothing.
-use Rattle.std.specs.Prelude.{Bool, true, false, cond, List, [], ◌∷◌, ℕ, ◌+◌, ◌-◌, ◌*◌, ◌/◌, ◌%◌, ℤ, pos, negsuc, ◌+ℤ◌, get_or, ltb, eqb}
+use Rattle.std.specs.Prelude.{Bool, true, false, cond, List, [], ◌∷◌, ℕ, ◌+◌, ◌-◌, ◌*◌, ◌/◌, ◌%◌, ℤ, pos, negsuc, ◌+ℤ◌, get_or, ltb, eqb, Some, None, Option}
 use Rattle.mesh.specs.Mesh.{Axis, X, Y, Z, place, place_of, number}
 use Rattle.mesh.specs.declared.Sizes.{Sizes}
 use Rattle.mesh.specs.declared.Place.{Place}
-use Rattle.mesh.specs.declared.Next.{Next}
-use Rattle.mesh.specs.declared.Next.TheVariants.{At, Edge}
-use Rattle.mesh.specs.declared.Moved.{Moved}
-use Rattle.mesh.specs.declared.Moved.TheVariants.{To, Off}
 
 abbrev pub triple : ℤ → ℤ → ℤ → List ℤ
 triple a b c = a ∷ b ∷ c ∷ []
@@ -30,34 +26,30 @@ abbrev pub opposite : ℕ → ℕ
 opposite j = j + 1 - 2 * (j % 2)
 
 -- a coordinate, if an axis of n has it
-abbrev pub on_axis : ℕ → ℤ → Moved
-on_axis n (pos k) = cond (ltb k n) (To k) Off
-on_axis n (negsuc k) = Off
+abbrev pub on_axis : ℕ → ℤ → Option ℕ
+on_axis n (pos k) = cond (ltb k n) (Some k) None
+on_axis n (negsuc k) = None
 
 -- the coordinate c moved by s on an axis of n, or off the axis
-abbrev pub moved : ℕ → ℤ → ℕ → Moved
+abbrev pub moved : ℕ → ℤ → ℕ → Option ℕ
 moved c s n = on_axis n (pos c +ℤ s)
 
 -- the three axes together
-abbrev pub together : Moved → Moved → Moved → Next
-together Off b c = Edge
-together (To x) Off c = Edge
-together (To x) (To y) Off = Edge
-together (To x) (To y) (To z) = At (place x y z)
+abbrev pub together : Option ℕ → Option ℕ → Option ℕ → Option Place
+together None b c = None
+together (Some x) None c = None
+together (Some x) (Some y) None = None
+together (Some x) (Some y) (Some z) = Some (place x y z)
 
 -- "A place is three coordinates; a step from it gives the next place, or says that the mesh ends there." There are six directions.
-unfoldable pub next : Sizes → Place → ℕ → Next
+unfoldable pub next : Sizes → Place → ℕ → Option Place
 next S p j =
-    cond (ltb j 6) (together (moved p.x (step_of j 0) S.w) (moved p.y (step_of j 1) S.h) (moved p.z (step_of j 2) S.d)) Edge
-
-abbrev pub is_at : Next → Bool
-is_at (At q) = true
-is_at Edge = false
+    cond (ltb j 6) (together (moved p.x (step_of j 0) S.w) (moved p.y (step_of j 1) S.h) (moved p.z (step_of j 2) S.d)) None
 
 -- the number of the place that a step leads to
-abbrev pub number_at : Sizes → Next → ℕ
-number_at S (At q) = number S q
-number_at S Edge = 0
+abbrev pub number_at : Sizes → Option Place → ℕ
+number_at S (Some q) = number S q
+number_at S None = 0
 
 -- the number of the neighbour of node k in direction j, where it exists
 abbrev pub neighbour : Sizes → ℕ → ℕ → ℕ

@@ -4,11 +4,11 @@ ghost use Rattle.mesh.specs.Answers.{refusal_no};
 
 use crate::Refusal;
 
-impl Refusal {
-    pub fn number(self) -> u32
-        ensures { result ≡ refusal_no self }
-    {
-        match self {
+impl From<Refusal> for u32 {
+    ghost from_gives = { λ r n. n ≡ refusal_no r };
+
+    fn from(r: Refusal) -> u32 {
+        match r {
             Refusal::BadSizes => 1,
             Refusal::BadLength => 2,
             Refusal::NoRoom => 3,

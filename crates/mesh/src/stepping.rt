@@ -3,9 +3,9 @@ ghost use Rattle.std.specs.Prelude.{◌≡◌, ◌<◌};
 ghost use Rattle.mesh.specs.Mesh.{InRange, Inside};
 ghost use Rattle.mesh.specs.Steps.{step_of, moved, together, next};
 
-use crate::{Moved, Next, Place, Sizes};
+use crate::{Place, Sizes};
 
-// +X, -X, +Y, -Y, +Z, -Z.
+// +X, -X, +Y, -Y, +Z, -Z. A direction is its number here, as in C and in the definition `next`.
 pub const STEPS: [[i32; 3]; 6] = [
     [1, 0, 0],
     [-1, 0, 0],
@@ -16,43 +16,38 @@ pub const STEPS: [[i32; 3]; 6] = [
 ];
 
 // The coordinate c, moved along an axis of n by a direction's step, or off the axis.
-fn shift(c: usize, direction: usize, axis: usize, n: usize) -> Moved
+fn shift(c: usize, direction: usize, axis: usize, n: usize) -> Option<usize>
     requires { (c < 16) × (direction < 6) × (axis < 3) }
     ensures { result ≡ moved c (step_of direction axis) n }
 {
     let t = c as i32 + STEPS[direction][axis];
     if t < 0 {
-        return Moved::Off;
+        return None;
     }
     let u = t as usize;
-    if u < n { Moved::To(u) } else { Moved::Off }
+    if u < n { Some(u) } else { None }
 }
 
 // The three axes together.
-fn together(x: Moved, y: Moved, z: Moved) -> Next
+fn together(x: Option<usize>, y: Option<usize>, z: Option<usize>) -> Option<Place>
     ensures { result ≡ together x y z }
 {
-    let Moved::To(x) = x else {
-        return Next::Edge;
-    };
-    let Moved::To(y) = y else {
-        return Next::Edge;
-    };
-    let Moved::To(z) = z else {
-        return Next::Edge;
-    };
-    Next::At(Place { x, y, z })
+    Some(Place {
+        x: x?,
+        y: y?,
+        z: z?,
+    })
 }
 
 impl Place {
     // The next place in a direction, or the edge: one coordinate moves. A direction that is a constant leaves the compiler no table to build.
-    pub fn step(self, direction: usize, s: Sizes) -> Next
+    pub fn step(self, direction: usize, s: Sizes) -> Option<Place>
         requires { (direction < 6) × InRange s × Inside s self }
         ensures { result ≡ next s self direction }
     {
-        let x = Moved::To(self.x);
-        let y = Moved::To(self.y);
-        let z = Moved::To(self.z);
+        let x = Some(self.x);
+        let y = Some(self.y);
+        let z = Some(self.z);
         match direction {
             0 => together(shift(self.x, 0, 0, s.w), y, z),
             1 => together(shift(self.x, 1, 0, s.w), y, z),

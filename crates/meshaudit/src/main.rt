@@ -6,13 +6,14 @@ use audit::usage::usage;
 use std::env::Env;
 use std::fs::Files;
 use std::io::{Read, Result, Write};
-use text::running::{arg_count, open_named, print_front};
+use text::Page;
+use text::running::{arg_count, open_named};
 
 // Prints how to call the program.
 fn help<W: Write>(out: &mut W) -> Result<()> {
-    let mut text = [0u8; 4096];
-    let n = usage(&mut text);
-    print_front(out, &text, n)
+    let mut page = Page::<4096>::blank();
+    usage(&mut page);
+    out.write_all(page.text())
 }
 
 // The audit of an open log, on the map that an argument names.

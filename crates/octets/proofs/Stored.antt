@@ -1,12 +1,11 @@
 -- What is stored leaves the length, and bytes stored one after the other are stored together. Assumes nothing.
 use mathlib.Core.Path.{◌≡◌, sym, ap, ◌∙◌}
-use mathlib.Core.List.{List, [], ◌∷◌, ◌++◌, append_assoc, append-nil}
-use Prim.Native.Nat.{ℕ, suc, ◌+◌, ◌≤◌, ◌<◌}
-use native.Mathlib.Nat.{zero-add, add-zero, add_assoc}
-use native.Mathlib.Numerals.{add-one}
+use mathlib.Core.List.{List, ◌++◌, append_assoc}
+use Prim.Native.Nat.{ℕ, ◌+◌, ◌≤◌}
+use native.Mathlib.Nat.{zero-add, add_assoc}
 use native.Mathlib.Omega.{arith}
-use lib.ListN.{length, set, take, drop, length-append, length-drop, take-append-drop}
-use lib.Seq.{length-take-le, take_at, drop_at, drop-drop, set_split}
+use lib.ListN.{length, take, drop, length-append, length-drop}
+use lib.Seq.{length-take-le, take_at, drop_at, drop-drop}
 use Rattle.octets.specs.Stored.{stored}
 
 module _ (out : List ℕ) (at : ℕ) (bytes : List ℕ) (fits : at + length bytes ≤ length out) where
@@ -35,18 +34,5 @@ module _ (out : List ℕ) (at : ℕ) (bytes : List ℕ) (fits : at + length byte
           ∙ ap (drop (length more)) (drop_at (take at out ++ bytes) (drop (at + length bytes) out) (at + length bytes) head_size)
           ∙ drop-drop (length more) (at + length bytes) out
 
--- no byte, one byte, and bytes from the first place on
-pub stored_none : (out : List ℕ) (at : ℕ) → stored out at [] ≡ out
-stored_none out at = rw (add-zero at, append-nil (take at out)) (take-append-drop at out)
-
-pub stored_one : (out : List ℕ) (at b : ℕ) → at < length out → stored out at (b ∷ []) ≡ set out at b
-stored_one out at b h = rw add-one (append_assoc (take at out) (b ∷ []) (drop (suc at) out) ∙ sym (set_split out at b h))
-
 pub stored_front : (out bytes : List ℕ) → stored out 0 bytes ≡ bytes ++ drop (length bytes) out
 stored_front out bytes = ap (λ (n : ℕ). bytes ++ drop n out) (zero-add (length bytes))
-
--- the part from a place on that is as long as the bytes, put back as the bytes
-pub stored_part : (out : List ℕ) (at n : ℕ) (bytes part : List ℕ) → part ≡ bytes → n ≡ length bytes
-    → take at out ++ (part ++ drop n (drop at out)) ≡ stored out at bytes
-stored_part out at n bytes part e f =
-    rw (e, f, drop-drop (length bytes) at out) (sym (append_assoc (take at out) bytes (drop (at + length bytes) out)))

@@ -17,17 +17,13 @@ pub fn put(bytes: &[u8], out: &mut [u8], at: usize)
 pub fn four_bytes(n: usize) -> [u8; 4]
     ensures { result ≡ four_bytes n }
 {
-    [
-        (n % 256) as u8,
-        (n / 256 % 256) as u8,
-        (n / 65536 % 256) as u8,
-        (n / 16777216 % 256) as u8,
-    ]
+    let [a, b, c, d, ..] = n.to_le_bytes();
+    [a, b, c, d]
 }
 
 // The number of four bytes.
 pub fn little_endian(a: u8, b: u8, c: u8, d: u8) -> usize
     ensures { result ≡ little_endian a b c d }
 {
-    a as usize + 256 * (b as usize + 256 * (c as usize + 256 * d as usize))
+    u32::from_le_bytes([a, b, c, d]) as usize
 }

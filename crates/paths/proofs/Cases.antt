@@ -11,10 +11,10 @@ use Rattle.mesh.specs.Mesh.{sizes}
 use Rattle.mesh.specs.Cells.{wall}
 use Rattle.rules.specs.Marks.{rule, marked, stuck_within, stuck, byte_of, mark_at}
 use Rattle.mesh.proofs.Tests.{T-all, T-and, T-eq}
-use Rattle.paths.specs.Entries.{verdict_answer}
+use Rattle.paths.specs.Entries.{verdict_answer, grant}
 use Rattle.paths.specs.Promise.{mark_on, MarksApart}
-use Rattle.paths.specs.declared.Verdict.TheVariants.{Granted}
 use Rattle.paths.proofs.Computed.{computed}
+use Rattle.std.specs.Prelude.{Ok}
 
 -- neither node 2 nor node 17 has a mark, in orientation o
 abbrev unmarked : ℕ → Bool
@@ -37,6 +37,6 @@ marks_apart = record {
 }
 
 -- 2 × 2 × 2 with (1,0,0) faulty, from corner to corner: a hop on each axis, the first of them on Y or on Z
-pub deep_way : verdict_answer (sizes 2 2 2) (0 ∷ 1 ∷ 0 ∷ 0 ∷ 0 ∷ 0 ∷ 0 ∷ 0 ∷ []) 0 7 ≡ Granted 3 20
+pub deep_way : verdict_answer (sizes 2 2 2) (0 ∷ 1 ∷ 0 ∷ 0 ∷ 0 ∷ 0 ∷ 0 ∷ 0 ∷ []) 0 7 ≡ Ok (grant 3 20)
 unfolding computed
 deep_way = refl

@@ -14,11 +14,11 @@ use Rattle.mesh.proofs.Tests.{T-eq, T-every, cond_true}
 use Rattle.mesh.proofs.Steps.{dir_of, dir_lt, dir_led, led, next_along, room, go, put}
 use Rattle.mesh.specs.declared.Sizes.{Sizes}
 use Rattle.mesh.specs.declared.Place.{Place}
-use Rattle.mesh.specs.declared.Next.TheVariants.{At, Edge}
 use Rattle.paths.specs.Differences.{difference, size, wanted, is_way, prefers, preferred, hops, same}
+use Rattle.std.specs.Prelude.{Some, None}
 
 -- a step leads to one place
-pub at_eq : {p q : Place} → At p ≡ At q → p ≡ q
+pub at_eq : {p q : Place} → Some p ≡ Some q → p ≡ q
 at_eq h = cc
 
 -- ---- one axis
@@ -201,7 +201,7 @@ hops_farther X p e c h = omega arith
 hops_farther Y p e c h = omega arith
 hops_farther Z p e c h = omega arith
 
-module _ (S : Sizes) (p q e : Place) (i : Inside S p) (j : ℕ) (h : next S p j ≡ At q) where
+module _ (S : Sizes) (p q e : Place) (i : Inside S p) (j : ℕ) (h : next S p j ≡ Some q) where
   -- a preferred step lowers the hops by one, every other step raises them by one
   pub preferred_lowers : T (preferred p e j) → hops p e ≡ suc (hops q e)
   preferred_lowers t =
@@ -217,11 +217,11 @@ module _ (S : Sizes) (p q e : Place) (i : Inside S p) (j : ℕ) (h : next S p j 
       rw f (hops_farther a p e (go down (on p a)) (size_farther down (on p a) (on e a) (span S a) r l))
 
 -- a preferred step never leaves the mesh
-pub preferred_next : (S : Sizes) (p e : Place) → Inside S p → Inside S e → (j : ℕ) → T (preferred p e j) → (q : Place) × (next S p j ≡ At q)
+pub preferred_next : (S : Sizes) (p e : Place) → Inside S p → Inside S e → (j : ℕ) → T (preferred p e j) → (q : Place) × (next S p j ≡ Some q)
 preferred_next S p e i k j t =
     let (a, down, f, l) = preferred_read p e j t in
     let q : Place = put a p (go down (on p a)) in
-    (q, ap (next S p) f ∙ next_along S p i a down ∙ cond_true (room down (on p a) (span S a)) (At q) Edge (fits a down l))
+    (q, ap (next S p) f ∙ next_along S p i a down ∙ cond_true (room down (on p a) (span S a)) (Some q) None (fits a down l))
   where
     fits : (a : Axis) (down : Bool) → T (lies down (on p a) (on e a)) → T (room down (on p a) (span S a))
     fits X true l = omega (arith, ltb→lt, lt→ltb)

@@ -17,7 +17,6 @@ use Rattle.mesh.proofs.Numbers.{number_of, number_lt, place_in, place_of_lem, nu
 use Rattle.mesh.proofs.Steps.{next_in, next_only}
 use Rattle.mesh.specs.declared.Sizes.{Sizes}
 use Rattle.mesh.specs.declared.Place.{Place}
-use Rattle.mesh.specs.declared.Next.TheVariants.{At}
 use Rattle.paths.specs.Differences.{hops, same}
 use Rattle.paths.specs.Paths.{may_enter, may_hop, Leads, stay, hop, Path, Walk, stands, goes}
 use Rattle.paths.specs.Offered.{offers, Lowest, ends, takes}
@@ -26,6 +25,7 @@ use Rattle.paths.proofs.Paths.{may_hop_iff}
 use Rattle.paths.proofs.Walks.{path_walk}
 use Rattle.paths.proofs.Differences.{at_eq}
 use Rattle.paths.proofs.Offered.{offers_iff, least_one}
+use Rattle.std.specs.Prelude.{Some}
 
 -- ---- a list that leads from a place begins with its number
 
@@ -60,7 +60,7 @@ module _ (m : Map) (e : Place) where
   -- from node a to node b
   pub record Step (a b : ℕ) : Type 0 where
     pub enters : T (may_enter m e (at b))
-    pub leads : (j : ℕ) × T (linked m (at a) j) × (next m.sizes (at a) j ≡ At (at b))
+    pub leads : (j : ℕ) × T (linked m (at a) j) × (next m.sizes (at a) j ≡ Some (at b))
 
   walk_steps : {p q : Place} {l : List ℕ} → Walk m e p q l → Inside m.sizes p → (i : ℕ) → suc i < length l → Step (get_or l i 0) (get_or l (suc i) 0)
   walk_steps (stands f) i zero h = absurd (omega arith)
@@ -82,7 +82,7 @@ module _ (m : Map) (e : Place) where
       let t = s 0 (omega arith) in
       let (j, c, g) = t.leads in
       let f : place_of m.sizes x ≡ p = ap (place_of m.sizes) a ∙ place_of_lem m.sizes p i in
-      let g' : next m.sizes p j ≡ At (at y) = rw (← f) g in
+      let g' : next m.sizes p j ≡ Some (at y) = rw (← f) g in
       let w = steps_walk (y ∷ l) n (at y) q (next_in m.sizes p (at y) i j g') k (omega arith) (sym (number_of m.sizes y)) b
       (λ i h. s (suc i) (omega arith)) in
       rw a (goes {p = p} {r = at y} {q = q} {l = y ∷ l} j g' (rw (← f) c) t.enters w)
@@ -122,7 +122,7 @@ module _ (S : Sizes) (cells : List ℕ) (s e : ℕ) (k : s < nodes S) (k' : e < 
 
 -- a list of two nodes or more leads by a hop to the second
 first_hop : {m : Map} {e p q : Place} {k : List ℕ} (a b : ℕ) (l : List ℕ) → Leads m e p q k → k ≡ a ∷ b ∷ l
-    → (r : Place) × (j : ℕ) × (n : List ℕ) × (next m.sizes p j ≡ At r) × T (may_hop m e p j r) × Leads m e r q n × (b ≡ number m.sizes r)
+    → (r : Place) × (j : ℕ) × (n : List ℕ) × (next m.sizes p j ≡ Some r) × T (may_hop m e p j r) × Leads m e r q n × (b ≡ number m.sizes r)
 first_hop a b l (stay f) d = let z : ◌≡◌ {A = ℕ} 1 (suc (suc (length l))) = ap length d in absurd (omega arith)
 first_hop {m} a b l (hop {r = r} {l = n} j h y L) d =
     let (k, f) = leads_head L in

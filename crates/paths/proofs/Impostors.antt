@@ -16,7 +16,6 @@ use Rattle.mesh.specs.Cells.{map_of, faulty_cell, may_end, works}
 use Rattle.rules.specs.Marks.{mark_at}
 use Rattle.mesh.specs.declared.Sizes.{Sizes}
 use Rattle.mesh.specs.declared.Place.{Place}
-use Rattle.mesh.specs.declared.Next.TheVariants.{At}
 use Rattle.paths.specs.Differences.{preferred, hops}
 use Rattle.paths.specs.Entries.{route_out}
 use Rattle.paths.specs.Promise.{P, verdict_on, Asked, BothWork, Joined, Begins, VerdictPromise, RoutePromise, ReachedPromise}
@@ -24,6 +23,7 @@ use Rattle.paths.proofs.Computed.{computed}
 use Rattle.paths.proofs.Cases.{marks_apart}
 use Rattle.paths.proofs.Direct.{one_route}
 use Rattle.paths.proofs.Promise.{promise}
+use Rattle.std.specs.Prelude.{Some}
 
 -- ---- map P
 
@@ -64,7 +64,7 @@ no_way_up b =
     let z : ◌≡◌ {A = ℕ} 0 1 = rw (ap (λ (v : ℕ × ℕ × ℕ). v.2) from_1) at bit in
     omega arith
 
-way_up : T (preferred (place_of P.sizes 1) (place_of P.sizes 24) 2) × (next P.sizes (place_of P.sizes 1) 2 ≡ At (place_of P.sizes 6)) × T (works P (place_of P.sizes 6))
+way_up : T (preferred (place_of P.sizes 1) (place_of P.sizes 24) 2) × (next P.sizes (place_of P.sizes 1) 2 ≡ Some (place_of P.sizes 6)) × T (works P (place_of P.sizes 6))
 unfolding preferred next faulty_cell
 way_up = (tt, refl, tt)
 
@@ -102,7 +102,7 @@ module _ (refusal bad n o : Sizes → List ℕ → ℕ → ℕ → ℕ)
 
   -- a direction offered because the neighbour that way works
   pub offers_neighbours : ((S : Sizes) (cells : List ℕ) (s e j : ℕ) (r : Place) → refusal S cells s e ≡ 0
-      → T (preferred (place_of S s) (place_of S e) j) → next S (place_of S s) j ≡ At r → T (works (map_of S cells) r) → o S cells s e / 2 ^ j % 2 ≡ 1) → ⊥
+      → T (preferred (place_of S s) (place_of S e) j) → next S (place_of S s) j ≡ Some r → T (works (map_of S cells) r) → o S cells s e / 2 ^ j % 2 ≡ 1) → ⊥
   offers_neighbours f =
       let g = grants 1 24 (joined_of 1 24 7 1 from_1) in
       let b = f P.sizes P.cells 1 24 2 (place_of P.sizes 6) g way_up.0 way_up.1 way_up.2 in

@@ -18,11 +18,11 @@ use Rattle.rules.proofs.Marks.{useless_iff}
 use Rattle.mesh.proofs.Steps.{led, next_in, room, go, put}
 use Rattle.mesh.specs.declared.Sizes.{Sizes}
 use Rattle.mesh.specs.declared.Place.{Place}
-use Rattle.mesh.specs.declared.Next.TheVariants.{At}
 use Rattle.paths.specs.Differences.{preferred, same, not_behind, ahead_or_level}
 use Rattle.paths.specs.Paths.{may_enter, Leads, stay, hop, Path}
 use Rattle.paths.proofs.Differences.{lies, on_put, preferred_read, same_iff}
 use Rattle.paths.proofs.Paths.{may_hop_iff}
+use Rattle.std.specs.Prelude.{Some}
 
 -- ---- what may be entered works, and does not block who enters it: all that the law asks of the named questions
 
@@ -75,7 +75,7 @@ still S o p e Z c f t = elim [ X ↦ f X | Y ↦ f Y | Z ↦ λ _. t ]
 
 module _ (m : Map) (o : ℕ) (e : Place) (k : Inside m.sizes e) where
   -- a preferred step towards a node that is not behind goes ahead, and leaves it not behind
-  goes_ahead : (p r : Place) (j : ℕ) → Inside m.sizes p → T (ahead_or_level m.sizes o p e) → next m.sizes p j ≡ At r → T (preferred p e j)
+  goes_ahead : (p r : Place) (j : ℕ) → Inside m.sizes p → T (ahead_or_level m.sizes o p e) → next m.sizes p j ≡ Some r → T (preferred p e j)
       → ((a : Axis) × T (counted m.sizes a) × (j ≡ ahead o a)) × T (ahead_or_level m.sizes o r e)
   goes_ahead p r j i f h t =
       let (a, down, g, l) = preferred_read p e j t in

@@ -19,13 +19,13 @@ use Rattle.mesh.proofs.Bits.{bit_le}
 use Rattle.mesh.proofs.Tables.{sum_zero, sum_part}
 use Rattle.mesh.proofs.Steps.{dir_led, next_in}
 use Rattle.mesh.specs.declared.Place.{Place}
-use Rattle.mesh.specs.declared.Next.TheVariants.{At}
 use Rattle.paths.specs.Differences.{hops}
 use Rattle.paths.specs.Paths.{may_hop, Leads, stay, hop, leads}
 use Rattle.paths.specs.Offered.{offers, offered, lowest, onward, route_within, route, Lowest, ends, takes}
 use Rattle.paths.proofs.Differences.{hops_zero, end_prefers_none}
 use Rattle.paths.proofs.Walks.{path_walk}
 use Rattle.paths.proofs.Paths.{may_hop_iff, begins_read, hop_lowers, leads_iff}
+use Rattle.std.specs.Prelude.{Some}
 
 -- ---- the offered set
 
@@ -51,7 +51,7 @@ bit_one false = (λ e. absurd (omega arith), λ t. absurd t)
 module _ (m : Map) (e : Place) where
   -- "set when a path to the end begins that way"
   pub offers_iff : (p : Place) (j : ℕ) → Inside m.sizes p → T (offers m e p j)
-      ↔ ((r : Place) × (l : List ℕ) × (next m.sizes p j ≡ At r) × T (may_hop m e p j r) × Leads m e r e l)
+      ↔ ((r : Place) × (l : List ℕ) × (next m.sizes p j ≡ Some r) × T (may_hop m e p j r) × Leads m e r e l)
   unfolding offers
   offers_iff p j i = (
     λ t.

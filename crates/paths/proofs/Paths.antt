@@ -14,11 +14,10 @@ use Rattle.mesh.specs.Cells.{Map, cell_at, may_end, linked}
 use Rattle.mesh.proofs.Tests.{T-and, T-or, T-any, bool_ext}
 use Rattle.mesh.proofs.Steps.{dir_led, next_in}
 use Rattle.mesh.specs.declared.Place.{Place}
-use Rattle.mesh.specs.declared.Next.{Next}
-use Rattle.mesh.specs.declared.Next.TheVariants.{At, Edge}
 use Rattle.paths.specs.Differences.{preferred, hops, same}
 use Rattle.paths.specs.Paths.{may_enter, may_hop, Leads, stay, hop, Path, begins_by, begins, leads_within, leads}
 use Rattle.paths.proofs.Differences.{same_iff, preferred_lowers}
+use Rattle.std.specs.Prelude.{Some, None, Option}
 
 -- what a hop asks
 pub may_hop_iff : (m : Map) (e p : Place) (j : ℕ) (r : Place) → T (may_hop m e p j r) ↔ (T (preferred p e j) × T (linked m p j) × T (may_enter m e r))
@@ -31,27 +30,27 @@ may_hop_iff m e p j r = (
 module _ (m : Map) (e : Place) where
   -- a path begins by a hop, and `rest` goes on
   pub begins_read : (rest : Place → Bool) (p : Place) (j : ℕ)
-      → T (begins m e rest p j) ↔ ((r : Place) × (next m.sizes p j ≡ At r) × T (may_hop m e p j r) × T (rest r))
+      → T (begins m e rest p j) ↔ ((r : Place) × (next m.sizes p j ≡ Some r) × T (may_hop m e p j r) × T (rest r))
   begins_read rest p j = go (next m.sizes p j) refl
     where
       both : (t u : Bool) → T (elim t [ true ↦ u | false ↦ false ]) ↔ (T t × T u)
       both true u = (λ h. (tt, h), λ h. h.1)
       both false u = (λ h. absurd h, λ h. h.0)
 
-      go : (n : Next) → next m.sizes p j ≡ n
-          → T (begins_by m e rest p j n) ↔ ((r : Place) × (next m.sizes p j ≡ At r) × T (may_hop m e p j r) × T (rest r))
-      go (At r) h = (
+      go : (n : Option Place) → next m.sizes p j ≡ n
+          → T (begins_by m e rest p j n) ↔ ((r : Place) × (next m.sizes p j ≡ Some r) × T (may_hop m e p j r) × T (rest r))
+      go (Some r) h = (
         λ t. let (a, b) = (both (may_hop m e p j r) (rest r)).0 t in (r, h, a, b),
         λ q.
             let (s, k, a, b) = q in
             let f : r ≡ s = cc in
             (both (may_hop m e p j r) (rest r)).1 (rw f (a, b)),
       )
-      go Edge h = (λ t. absurd t, λ q. let (s, k, a, b) = q in let z : ◌≡◌ {A = ℕ} 0 1 = cc in absurd (omega arith))
+      go None h = (λ t. absurd t, λ q. let (s, k, a, b) = q in let z : ◌≡◌ {A = ℕ} 0 1 = cc in absurd (omega arith))
 
   -- one turn of the test: arrived, or a hop and the rest
   turn_iff : (rest : Place → Bool) (q p : Place) → T (same p q || any 6 (begins m e rest p))
-      ↔ ((p ≡ q) ⊎ ((j : ℕ) × (r : Place) × (next m.sizes p j ≡ At r) × T (may_hop m e p j r) × T (rest r)))
+      ↔ ((p ≡ q) ⊎ ((j : ℕ) × (r : Place) × (next m.sizes p j ≡ Some r) × T (may_hop m e p j r) × T (rest r)))
   turn_iff rest q p = (
     λ t. elim ((T-or (same p q) (any 6 (begins m e rest p))).0 t) [
       | inl s ↦ inl ((same_iff p q).0 s)
@@ -69,7 +68,7 @@ module _ (m : Map) (e : Place) where
   )
 
   -- a hop leaves one hop fewer
-  pub hop_lowers : (p r : Place) (j : ℕ) → Inside m.sizes p → next m.sizes p j ≡ At r → T (may_hop m e p j r)
+  pub hop_lowers : (p r : Place) (j : ℕ) → Inside m.sizes p → next m.sizes p j ≡ Some r → T (may_hop m e p j r)
       → hops p e ≡ suc (hops r e)
   hop_lowers p r j i h t = preferred_lowers m.sizes p r e i j h ((may_hop_iff m e p j r).0 t).0
 

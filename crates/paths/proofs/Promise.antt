@@ -10,7 +10,7 @@ use lib.ListN.{length, get_or, drop, get_or-append}
 use Rattle.mesh.specs.Tools.{bit, count}
 use Rattle.mesh.specs.Mesh.{nodes, number, place_of}
 use Rattle.mesh.specs.Cells.{Map, map_of}
-use Rattle.mesh.specs.Answers.{answer_no, answer_bad, granted, numbered, numbered_no, numbered_bad, numbered_value}
+use Rattle.mesh.specs.Answers.{answer_no, answer_bad, granted, answered, numbered_value, Answer}
 use Rattle.mesh.specs.Order.{Check, ◌else◌, ◌give◌, NamesBad}
 use Rattle.mesh.proofs.Tests.{T-eq}
 use Rattle.mesh.proofs.Bits.{bit_le, bit_one}
@@ -20,13 +20,10 @@ use Rattle.mesh.proofs.Steps.{next_in}
 use Rattle.mesh.proofs.Order.{unused, passes, fails_at, gives, not_zero}
 use Rattle.mesh.specs.declared.Sizes.{Sizes}
 use Rattle.mesh.specs.declared.Place.{Place}
-use Rattle.mesh.specs.declared.Answer.{Answer}
-use Rattle.mesh.specs.declared.Answer.TheVariants.{Done, Refused}
 use Rattle.paths.specs.Differences.{hops}
 use Rattle.paths.specs.Paths.{Leads, leads}
 use Rattle.paths.specs.Offered.{offered, route, reached, reached_at, reached_count}
-use Rattle.paths.specs.Entries.{verdict_no, verdict_bad, verdict_hops, verdict_offered, judged, verdict_check, verdict_answer}
-use Rattle.paths.specs.Entries.{route_length, route_check, route_answer, route_written, route_out, reached_check, reached_answer, reached_written, reached_out}
+use Rattle.paths.specs.Entries.{verdict_hops, verdict_offered, grant, verdict_check, verdict_answer, route_length, route_check, route_answer, route_written, route_out, reached_check, reached_answer, reached_written, reached_out}
 use Rattle.paths.specs.Promise.{Asked, BothWork, Joined, end_checks, path_checks, Spread, VerdictPromise, RoutePromise, ReachedPromise, Promise}
 use Rattle.paths.proofs.Differences.{hops_zero, hops_le}
 use Rattle.paths.proofs.Paths.{leads_iff, path_iff}
@@ -34,6 +31,7 @@ use Rattle.paths.proofs.Offered.{offered_bit, offered_lt, offered_end, route_low
 use Rattle.paths.proofs.Reached.{start_reached, reached_on, closed_refuses, reached_length, reached_byte, byte_iff, end_byte}
 use Rattle.paths.proofs.Direct.{path_direct, begins_iff, lowest_takes}
 use Rattle.paths.proofs.Verdicts.{route_checks, reached_checks, ends_pass, path_passes, route_passes, reached_passes, verdict_decided, route_decided, reached_decided, verdict_names, route_names, reached_names}
+use Rattle.std.specs.Prelude.{Ok, Err}
 
 both : {A B C : Type 0} → A ↔ B → B ↔ C → A ↔ C
 both f g = (λ a. g.0 (f.0 a), λ c. f.1 (g.1 c))
@@ -88,16 +86,16 @@ module _ (S : Sizes) (cells : List ℕ) (s e : ℕ) where
 
   verdict_promise :
       let v = verdict_answer S cells s e in
-      VerdictPromise S cells s e (verdict_no v) (verdict_bad v) (verdict_hops v) (verdict_offered v)
+      VerdictPromise S cells s e (answer_no v) (answer_bad v) (verdict_hops v) (verdict_offered v)
   unfolding verdict_answer
   verdict_promise =
       let check = verdict_check S cells s e in
       go check (gives (path_checks S cells s e) check (verdict_decided S cells s e)) (verdict_names S cells s e)
     where
       go : (a : Answer) → path_checks S cells s e give answer_no a → NamesBad S cells (answer_no a) (answer_bad a)
-          → let v = judged a (hops from to) (offered m to from) in VerdictPromise S cells s e (verdict_no v) (verdict_bad v) (verdict_hops v) (verdict_offered v)
-      go Done g b = verdict_kept _ _ _ _ g b (λ _. (refl, refl)) (λ n. absurd (n refl))
-      go (Refused r) g b = verdict_kept _ _ _ _ g b (λ z. absurd (not_zero r z)) (λ _. (refl, refl))
+          → let v = answered a (grant (hops from to) (offered m to from)) in VerdictPromise S cells s e (answer_no v) (answer_bad v) (verdict_hops v) (verdict_offered v)
+      go (Ok _) g b = verdict_kept _ _ _ _ g b (λ _. (refl, refl)) (λ n. absurd (n refl))
+      go (Err r) g b = verdict_kept _ _ _ _ g b (λ z. absurd (not_zero r z)) (λ _. (refl, refl))
 
   -- ---- the route
 
@@ -130,16 +128,16 @@ module _ (S : Sizes) (cells : List ℕ) (s e : ℕ) where
       }
 
   route_promise : (old : List ℕ) → let a = route_answer S cells s e (length old) in
-      RoutePromise S cells s e old (numbered_no a) (numbered_bad a) (numbered_value a) (route_out S cells s e old)
+      RoutePromise S cells s e old (answer_no a) (answer_bad a) (numbered_value a) (route_out S cells s e old)
   unfolding route_answer
   route_promise old =
       let check = route_check S cells s e (length old) in
       go check (gives (route_checks S cells s e (length old)) check (route_decided S cells s e (length old))) (route_names S cells s e (length old))
     where
       go : (a : Answer) → route_checks S cells s e (length old) give answer_no a → NamesBad S cells (answer_no a) (answer_bad a)
-          → let v = numbered a (route_length S s e) in RoutePromise S cells s e old (numbered_no v) (numbered_bad v) (numbered_value v) (granted a (route_written S cells s e old) old)
-      go Done g b = route_kept old _ _ _ _ g b (λ _. (refl, refl)) (λ n. absurd (n refl))
-      go (Refused r) g b = route_kept old _ _ _ _ g b (λ z. absurd (not_zero r z)) (λ _. (refl, refl))
+          → let v = answered a (route_length S s e) in RoutePromise S cells s e old (answer_no v) (answer_bad v) (numbered_value v) (granted a (route_written S cells s e old) old)
+      go (Ok _) g b = route_kept old _ _ _ _ g b (λ _. (refl, refl)) (λ n. absurd (n refl))
+      go (Err r) g b = route_kept old _ _ _ _ g b (λ z. absurd (not_zero r z)) (λ _. (refl, refl))
 
   -- ---- what is reached
 
@@ -206,16 +204,16 @@ module _ (S : Sizes) (cells : List ℕ) (s e : ℕ) where
       }
 
   reached_promise : (old : List ℕ) → let a = reached_answer S cells s e (length old) in
-      ReachedPromise S cells s e old (numbered_no a) (numbered_bad a) (numbered_value a) (reached_out S cells s e old)
+      ReachedPromise S cells s e old (answer_no a) (answer_bad a) (numbered_value a) (reached_out S cells s e old)
   unfolding reached_answer
   reached_promise old =
       let check = reached_check S cells s e (length old) in
       go check (gives (reached_checks S cells s e (length old)) check (reached_decided S cells s e (length old))) (reached_names S cells s e (length old))
     where
       go : (a : Answer) → reached_checks S cells s e (length old) give answer_no a → NamesBad S cells (answer_no a) (answer_bad a)
-          → let v = numbered a (reached_count m from to) in ReachedPromise S cells s e old (numbered_no v) (numbered_bad v) (numbered_value v) (granted a (reached_written S cells s e old) old)
-      go Done g b = reached_kept old _ _ _ _ g b (λ _. (refl, refl)) (λ n. absurd (n refl))
-      go (Refused r) g b = reached_kept old _ _ _ _ g b (λ z. absurd (not_zero r z)) (λ _. (refl, refl))
+          → let v = answered a (reached_count m from to) in ReachedPromise S cells s e old (answer_no v) (answer_bad v) (numbered_value v) (granted a (reached_written S cells s e old) old)
+      go (Ok _) g b = reached_kept old _ _ _ _ g b (λ _. (refl, refl)) (λ n. absurd (n refl))
+      go (Err r) g b = reached_kept old _ _ _ _ g b (λ z. absurd (not_zero r z)) (λ _. (refl, refl))
 
   -- ---- the whole
 

@@ -15,20 +15,20 @@ use Rattle.mesh.proofs.Tables.{length_table, get_d_table}
 use Rattle.mesh.proofs.Numbers.{number_lt, place_of_lem}
 use Rattle.mesh.proofs.Steps.{next_in}
 use Rattle.mesh.specs.declared.Place.{Place}
-use Rattle.mesh.specs.declared.Next.TheVariants.{At}
 use Rattle.paths.specs.Paths.{may_hop, Leads, stay, hop, Path, leads}
 use Rattle.paths.specs.Offered.{reached_at, reached}
 use Rattle.paths.proofs.Paths.{leads_iff, path_iff}
 use Rattle.paths.proofs.Offered.{bit_one}
+use Rattle.std.specs.Prelude.{Some}
 
 module _ (m : Map) (e : Place) where
-  one_more : {s p : Place} {l : List ℕ} → Leads m e s p l → (r : Place) (j : ℕ) → next m.sizes p j ≡ At r → T (may_hop m e p j r)
+  one_more : {s p : Place} {l : List ℕ} → Leads m e s p l → (r : Place) (j : ℕ) → next m.sizes p j ≡ Some r → T (may_hop m e p j r)
       → (k : List ℕ) × Leads m e s r k
   one_more {s} {p} (stay f) r j h y = (_, hop {p = s} {r = r} j (rw f h) (rw f y) (stay refl))
   one_more (hop i g z L) r j h y = let (k, K) = one_more L r j h y in (_, hop {l = k} i g z K)
 
   last_hop : {s r : Place} {l : List ℕ} → Leads m e s r l
-      → (s ≡ r) ⊎ ((p : Place) × (j : ℕ) × (k : List ℕ) × Leads m e s p k × (next m.sizes p j ≡ At r) × T (may_hop m e p j r))
+      → (s ≡ r) ⊎ ((p : Place) × (j : ℕ) × (k : List ℕ) × Leads m e s p k × (next m.sizes p j ≡ Some r) × T (may_hop m e p j r))
   last_hop (stay f) = inl f
   last_hop {s} {r} (hop {r = q} i g z L) = elim (last_hop L) [
     | inl f ↦ inr (s, i, _, stay refl, rw (← f) g, rw (← f) z)
@@ -40,12 +40,12 @@ module _ (m : Map) (e : Place) where
     start_reached = (leads_iff m e s s i).1 (_, stay refl)
 
     -- "a preferred step from a node with 1 leads to a node with 1 or to one that may not be used"
-    pub reached_on : (p r : Place) (j : ℕ) → T (leads m e s p) → next m.sizes p j ≡ At r → T (may_hop m e p j r) → T (leads m e s r)
+    pub reached_on : (p r : Place) (j : ℕ) → T (leads m e s p) → next m.sizes p j ≡ Some r → T (may_hop m e p j r) → T (leads m e s r)
     reached_on p r j t h y = let (l, L) = (leads_iff m e s p i).0 t in (leads_iff m e s r i).1 (one_more L r j h y)
 
     -- and no other node is reached: what a search that works forwards from the start computes
     pub reached_iff : (r : Place) → T (leads m e s r)
-        ↔ ((s ≡ r) ⊎ ((p : Place) × (j : ℕ) × T (leads m e s p) × (next m.sizes p j ≡ At r) × T (may_hop m e p j r)))
+        ↔ ((s ≡ r) ⊎ ((p : Place) × (j : ℕ) × T (leads m e s p) × (next m.sizes p j ≡ Some r) × T (may_hop m e p j r)))
     reached_iff r = (
       λ t. let (l, L) = (leads_iff m e s r i).0 t in elim (last_hop L) [
         | inl f ↦ inl f
@@ -57,7 +57,7 @@ module _ (m : Map) (e : Place) where
 -- Whoever follows one step at a time needs nothing else: a set of nodes that has the start and not the end, closed under hops, refuses
 -- every path.
 pub closed_refuses : (m : Map) (s e : Place) → Inside m.sizes s → (A : Place → Bool) → T (A s)
-    → ((p r : Place) (j : ℕ) → Inside m.sizes p → T (A p) → next m.sizes p j ≡ At r → T (may_hop m e p j r) → T (A r))
+    → ((p r : Place) (j : ℕ) → Inside m.sizes p → T (A p) → next m.sizes p j ≡ Some r → T (may_hop m e p j r) → T (A r))
     → (T (A e) → ⊥) → (l : List ℕ) → Path m s e l → ⊥
 closed_refuses m s e i A a closed out l w = out (follow w.leading i a)
   where

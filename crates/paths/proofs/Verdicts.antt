@@ -7,16 +7,14 @@ use native.Mathlib.Omega.{arith}
 use lib.Dec.{leb, ltb}
 use Rattle.mesh.specs.Mesh.{nodes, place_of}
 use Rattle.mesh.specs.Cells.{Map, map_of, cell_at, may_end}
-use Rattle.mesh.specs.Answers.{answer_no, answer_bad, ◌and_then◌, check_map, check_node, check_room}
+use Rattle.mesh.specs.Answers.{answer_no, answer_bad, ◌and_then◌, check_map, check_node, check_room, Answer}
 use Rattle.mesh.specs.Order.{Check, ◌else◌, AllPass, map_checks, NamesBad}
 use Rattle.mesh.proofs.Tests.{T-lt}
 use Rattle.mesh.proofs.Numbers.{place_in}
-use Rattle.mesh.proofs.Order.{decides_after, decides_both, last_passes}
-use Rattle.mesh.proofs.Order.{◌decide◌, decides_then, decides_by, room_decided, map_decided, bad_after, bad_map}
+use Rattle.mesh.proofs.Order.{decides_after, decides_both, last_passes, ◌decide◌, decides_then, decides_by, room_decided, map_decided, bad_after, bad_map}
 use Rattle.mesh.specs.declared.Sizes.{Sizes}
 use Rattle.mesh.specs.declared.Place.{Place}
 use Rattle.mesh.specs.declared.Refusal.TheVariants.{NoRoom, BadNumber, FaultyEnd, NoPath}
-use Rattle.mesh.specs.declared.Answer.{Answer}
 use Rattle.paths.specs.Differences.{hops}
 use Rattle.paths.specs.Paths.{leads}
 use Rattle.paths.specs.Entries.{check_end, check_ends, check_path, verdict_check, route_length, route_check, reached_check}

@@ -1,5 +1,5 @@
 -- 01, "Routes": differences of coordinates, preferred directions, hops. Assumes nothing.
-use Rattle.std.specs.Prelude.{Bool, false, cond, ◌||◌, ℕ, zero, suc, ◌+◌, ℤ, pos, negsuc, nat_abs, eqb, leb}
+use Rattle.std.specs.Prelude.{Bool, false, cond, ◌||◌, ℕ, zero, suc, ◌+◌, ℤ, pos, negsuc, nat_abs, eqb, leb, Some, None, Option}
 use Rattle.std.proofs.Math.IntN.{sub_ℕ}
 use Rattle.mesh.specs.Tools.{implies}
 use Rattle.mesh.specs.Mesh.{Axis, X, Y, Z, on, every}
@@ -7,8 +7,6 @@ use Rattle.mesh.specs.Steps.{along, runs_down}
 use Rattle.rules.specs.Marks.{counted}
 use Rattle.mesh.specs.declared.Sizes.{Sizes}
 use Rattle.mesh.specs.declared.Place.{Place}
-use Rattle.paths.specs.declared.Wanted.{Wanted}
-use Rattle.paths.specs.declared.Wanted.TheVariants.{Way, Level}
 
 -- "The signed difference along each axis": the coordinate of the end e less that of the node p; and its size
 abbrev pub difference : Place → Place → Axis → ℤ
@@ -18,14 +16,14 @@ abbrev pub size : Place → Place → Axis → ℕ
 size p e a = nat_abs (difference p e a)
 
 -- "A preferred direction lowers a difference's size; a zero difference offers none." The sign chooses, `up` or the direction after it.
-abbrev pub wanted : ℕ → ℤ → Wanted
-wanted up (pos zero) = Level
-wanted up (pos (suc n)) = Way up
-wanted up (negsuc n) = Way (up + 1)
+abbrev pub wanted : ℕ → ℤ → Option ℕ
+wanted up (pos zero) = None
+wanted up (pos (suc n)) = Some up
+wanted up (negsuc n) = Some (up + 1)
 
-abbrev pub is_way : Wanted → ℕ → Bool
-is_way (Way k) j = eqb j k
-is_way Level j = false
+abbrev pub is_way : Option ℕ → ℕ → Bool
+is_way (Some k) j = eqb j k
+is_way None j = false
 
 abbrev pub prefers : Place → Place → ℕ → Axis → Bool
 prefers p e j a = is_way (wanted (along a false) (difference p e a)) j

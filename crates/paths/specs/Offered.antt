@@ -1,12 +1,10 @@
 -- 01, "Routes": the offered set and the route; and what is reached on the way, the witness of a refusal. Assumes nothing.
-use Rattle.std.specs.Prelude.{Bool, true, false, List, [], ◌∷◌, ◌≡◌, ℕ, zero, suc, ◌*◌, ◌^◌, ◌<◌, T}
+use Rattle.std.specs.Prelude.{Bool, true, false, List, [], ◌∷◌, ◌≡◌, ℕ, zero, suc, ◌*◌, ◌^◌, ◌<◌, T, Some, None, Option}
 use Rattle.mesh.specs.Tools.{bit, sum, count, table}
 use Rattle.mesh.specs.Mesh.{nodes, number, place_of}
 use Rattle.mesh.specs.Steps.{next}
 use Rattle.mesh.specs.Cells.{Map}
 use Rattle.mesh.specs.declared.Place.{Place}
-use Rattle.mesh.specs.declared.Next.{Next}
-use Rattle.mesh.specs.declared.Next.TheVariants.{At, Edge}
 use Rattle.paths.specs.Differences.{hops}
 use Rattle.paths.specs.Paths.{begins, leads}
 
@@ -24,9 +22,9 @@ lowest zero t = zero
 lowest (suc n) t = elim (t 0) [ true ↦ 0 | false ↦ suc (lowest n λ k. t (suc k)) ]
 
 -- "The route written is the path that takes the lowest-numbered offered direction at each node", p with the n hops that are left
-abbrev pub onward : (Place → List ℕ) → Next → List ℕ
-onward rest (At r) = rest r
-onward rest Edge = []
+abbrev pub onward : (Place → List ℕ) → Option Place → List ℕ
+onward rest (Some r) = rest r
+onward rest None = []
 
 unfoldable pub route_within : ℕ → Map → Place → Place → List ℕ
 route_within zero m e p = number m.sizes p ∷ []
@@ -39,7 +37,7 @@ route m e p = route_within (hops p e) m e p
 pub data Lowest (m : Map) (e : Place) : Place → List ℕ → Type 0 where
   ends : {p : Place} → p ≡ e → Lowest m e p (number m.sizes p ∷ [])
   takes : {p r : Place} {l : List ℕ} (j : ℕ) → T (offers m e p j) → ((k : ℕ) → k < j → T (offers m e p k) → ⊥)
-      → next m.sizes p j ≡ At r → Lowest m e r l → Lowest m e p (number m.sizes p ∷ l)
+      → next m.sizes p j ≡ Some r → Lowest m e r l → Lowest m e p (number m.sizes p ∷ l)
 
 -- one byte for each node: 1 where preferred steps towards the end lead from the start to it; and how many they are
 abbrev pub reached_at : Map → Place → Place → ℕ → Bool

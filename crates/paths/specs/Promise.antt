@@ -4,20 +4,19 @@
 -- of a map, the number that checks give, a map in order and the bad cell named (mesh/specs/Order.antt); `next`, a step in the mesh; `may_end` and
 -- `may_enter`, today "the node works"; `linked`, today "there is a neighbour"; `hops`, the Manhattan distance; `may_hop`, a preferred step that is
 -- allowed; and `Path`, 01's path. Assumes nothing.
-use Rattle.std.specs.Prelude.{List, [], ◌∷◌, ◌++◌, ◌↔◌, ◌≢◌, ◌≡◌, ℕ, suc, ◌+◌, ◌/◌, ◌%◌, ◌^◌, ◌<◌, ◌≤◌, T, eqb, length, get_or, drop}
+use Rattle.std.specs.Prelude.{List, [], ◌∷◌, ◌++◌, ◌↔◌, ◌≢◌, ◌≡◌, ℕ, suc, ◌+◌, ◌/◌, ◌%◌, ◌^◌, ◌<◌, ◌≤◌, T, eqb, length, get_or, drop, Some}
 use Rattle.mesh.specs.Tools.{count}
 use Rattle.mesh.specs.Mesh.{sizes, nodes, number, place_of}
 use Rattle.mesh.specs.Steps.{next}
 use Rattle.mesh.specs.Cells.{Map, map_of, cell_at, may_end, linked}
-use Rattle.mesh.specs.Answers.{numbered_no, numbered_bad, numbered_value}
+use Rattle.mesh.specs.Answers.{answer_no, answer_bad, numbered_value}
 use Rattle.mesh.specs.Order.{Check, ◌else◌, ◌give◌, InOrder, map_checks, NamesBad}
 use Rattle.rules.specs.Marks.{mark_at}
 use Rattle.mesh.specs.declared.Sizes.{Sizes}
 use Rattle.mesh.specs.declared.Place.{Place}
-use Rattle.mesh.specs.declared.Next.TheVariants.{At}
 use Rattle.paths.specs.Differences.{hops}
 use Rattle.paths.specs.Paths.{may_enter, may_hop, Leads, Path}
-use Rattle.paths.specs.Entries.{verdict_no, verdict_bad, verdict_hops, verdict_offered, verdict_answer, route_answer, route_out, reached_answer, reached_out}
+use Rattle.paths.specs.Entries.{verdict_hops, verdict_offered, verdict_answer, route_answer, route_out, reached_answer, reached_out}
 
 -- A question: sizes and cells of a map, the node s where a transfer starts and the node e where it ends.
 module _ (S : Sizes) (cells : List ℕ) (s e : ℕ) where
@@ -42,7 +41,7 @@ module _ (S : Sizes) (cells : List ℕ) (s e : ℕ) where
   Joined = (l : List ℕ) × Path m (at s) (at e) l
 
   abbrev pub Begins : ℕ → ℕ → Type 0
-  Begins k j = (r : Place) × (l : List ℕ) × (next S (at k) j ≡ At r) × Path m (at k) (at e) (k ∷ number S r ∷ l)
+  Begins k j = (r : Place) × (l : List ℕ) × (next S (at k) j ≡ Some r) × Path m (at k) (at e) (k ∷ number S r ∷ l)
 
   -- The checks of the ends, in 01's order: the map (1, 2, 4), both numbers (5), both nodes (9). Those of a path between them: the ends', and last the
   -- path itself (10).
@@ -61,18 +60,18 @@ module _ (S : Sizes) (cells : List ℕ) (s e : ℕ) where
     pub ends : BothWork
     pub works : (i : ℕ) → suc i < length l → T (may_enter m (at e) (at (get_or l (suc i) 0)))
     pub neighbours : (i : ℕ) → suc i < length l
-        → (j : ℕ) × T (linked m (at (get_or l i 0)) j) × (next S (at (get_or l i 0)) j ≡ At (at (get_or l (suc i) 0)))
+        → (j : ℕ) × T (linked m (at (get_or l i 0)) j) × (next S (at (get_or l i 0)) j ≡ Some (at (get_or l (suc i) 0)))
 
-  -- At each of its nodes but the last, the list goes on in the lowest-numbered direction in which a path to the end begins.
+  -- Some each of its nodes but the last, the list goes on in the lowest-numbered direction in which a path to the end begins.
   abbrev pub TakesLowest : List ℕ → Type 0
-  TakesLowest l = (i : ℕ) → suc i < length l → (j : ℕ) × (next S (at (get_or l i 0)) j ≡ At (at (get_or l (suc i) 0)))
+  TakesLowest l = (i : ℕ) → suc i < length l → (j : ℕ) × (next S (at (get_or l i 0)) j ≡ Some (at (get_or l (suc i) 0)))
       × Begins (get_or l i 0) j × ((k : ℕ) → k < j → Begins (get_or l i 0) k → ⊥)
 
   -- Bytes, one for each node: the start has 1, and an allowed preferred step from a node with 1 leads to a node with 1. Anyone can check
   -- that, one step at a time; and where the end has no 1, it shows a refusal (`shown`).
   pub record Spread (bytes : List ℕ) : Type 0 where
     pub start_one : get_or bytes s 0 ≡ 1
-    pub closed : (k j : ℕ) (r : Place) → k < nodes S → get_or bytes k 0 ≡ 1 → next S (at k) j ≡ At r → T (may_hop m (at e) (at k) j r)
+    pub closed : (k j : ℕ) (r : Place) → k < nodes S → get_or bytes k 0 ≡ 1 → next S (at k) j ≡ Some r → T (may_hop m (at e) (at k) j r)
         → get_or bytes (number S r) 0 ≡ 1
 
   -- The verdict: n are the hops, o is the offered set.
@@ -127,11 +126,11 @@ module _ (S : Sizes) (cells : List ℕ) (s e : ℕ) where
     pub direct : Asked → (l : List ℕ) → Path m (at s) (at e) l ↔ DirectWalk l
     pub shown : Asked → (bytes : List ℕ) → Spread bytes → (get_or bytes e 0 ≡ 1 → ⊥) → Joined → ⊥
     -- the numbers of each call's answer
-    pub verdict : let v = verdict_answer S cells s e in VerdictPromise (verdict_no v) (verdict_bad v) (verdict_hops v) (verdict_offered v)
+    pub verdict : let v = verdict_answer S cells s e in VerdictPromise (answer_no v) (answer_bad v) (verdict_hops v) (verdict_offered v)
     pub route : (old : List ℕ) → let a = route_answer S cells s e (length old) in
-        RoutePromise old (numbered_no a) (numbered_bad a) (numbered_value a) (route_out S cells s e old)
+        RoutePromise old (answer_no a) (answer_bad a) (numbered_value a) (route_out S cells s e old)
     pub reached : (old : List ℕ) → let a = reached_answer S cells s e (length old) in
-        ReachedPromise old (numbered_no a) (numbered_bad a) (numbered_value a) (reached_out S cells s e old)
+        ReachedPromise old (answer_no a) (answer_bad a) (numbered_value a) (reached_out S cells s e old)
 
 -- "Map P is 5 × 5 × 1 with (2,1) and (1,2) faulty." The mark byte of a node of P in orientation o; and the verdict on two of them: the refusal's
 -- number, the hops and the offered set.
@@ -142,7 +141,7 @@ abbrev pub mark_on : ℕ → ℕ → ℕ
 mark_on o k = mark_at P o (place_of P.sizes k)
 
 abbrev pub verdict_on : ℕ → ℕ → ℕ × ℕ × ℕ
-verdict_on s e = let v = verdict_answer P.sizes P.cells s e in (verdict_no v, verdict_hops v, verdict_offered v)
+verdict_on s e = let v = verdict_answer P.sizes P.cells s e in (answer_no v, verdict_hops v, verdict_offered v)
 
 -- A marked end is no reason to refuse, an unmarked pair no reason to grant.
 pub record MarksApart : Type 0 where

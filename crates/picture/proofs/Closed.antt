@@ -14,8 +14,6 @@ use Rattle.mesh.specs.Steps.{next}
 use Rattle.mesh.specs.Cells.{Map, map_of, cell_at, may_pass, may_end, linked}
 use Rattle.mesh.specs.declared.Sizes.{Sizes}
 use Rattle.mesh.specs.declared.Place.{Place}
-use Rattle.mesh.specs.declared.Answer.TheVariants.{Done}
-use Rattle.mesh.specs.declared.Next.TheVariants.{At}
 use Rattle.mesh.proofs.Tests.{T-eq, T-cond, T-no}
 use Rattle.mesh.proofs.Numbers.{number_of, place_of_lem}
 use Rattle.mesh.proofs.Steps.{next_in}
@@ -28,6 +26,8 @@ use Rattle.paths.proofs.Paths.{may_hop_iff}
 use Rattle.paths.proofs.Reached.{start_reached, reached_on, byte_iff}
 use Rattle.routes.proofs.Ends.{ends_granted}
 use Rattle.picture.specs.Picture.{symbol_of, symbol_in}
+use Rattle.std.specs.Prelude.{Some}
+use Rattle.mesh.specs.Answers.{accepted}
 
 -- ---- what a symbol says
 
@@ -64,7 +64,7 @@ ended false false false false h = absurd (omega arith)
 
 -- ---- the picture of a transfer without a path
 
-module _ (S : Sizes) (cells : List ℕ) (s e : ℕ) (checked : check_ends S cells s e ≡ Done)
+module _ (S : Sizes) (cells : List ℕ) (s e : ℕ) (checked : check_ends S cells s e ≡ accepted)
     (none : T (leads (map_of S cells) (place_of S e) (place_of S s) (place_of S e)) → ⊥) where
   abbrev m : Map
   m = map_of S cells
@@ -88,7 +88,7 @@ module _ (S : Sizes) (cells : List ℕ) (s e : ℕ) (checked : check_ends S cell
       ]
 
   -- a step towards the end, from a node that is drawn as reached
-  module _ (p r : Place) (j : ℕ) (i : Inside S p) (from : Marked (symbol_in m s e (number S p))) (led : next S p j ≡ At r)
+  module _ (p r : Place) (j : ℕ) (i : Inside S p) (from : Marked (symbol_in m s e (number S p))) (led : next S p j ≡ Some r)
       (towards : T (preferred p (place_of S e) j)) where
     reached_if : T (may_enter m (place_of S e) r) → T (leads m (place_of S e) (place_of S s) r)
     unfolding linked

@@ -12,7 +12,6 @@ use Rattle.mesh.specs.Cells.{Map, map_of}
 use Rattle.mesh.specs.Fill.{Filled}
 use Rattle.mesh.specs.declared.Sizes.{Sizes}
 use Rattle.mesh.specs.declared.Place.{Place}
-use Rattle.mesh.specs.declared.Answer.TheVariants.{Done}
 use Rattle.mesh.proofs.Fill.{front_at, front_kept, front}
 use Rattle.mesh.proofs.Numbers.{nodes_le}
 use Rattle.mesh.proofs.Tables.{length_table, get_d_table}
@@ -25,6 +24,7 @@ use Rattle.rows.proofs.Box.{far_in}
 use Rattle.routes.proofs.Ends.{ends_granted}
 use Rattle.text.specs.Text.{pieces}
 use Rattle.picture.specs.Picture.{symbol_of, symbol_in, symbols, layer_text, ends_text, picture}
+use Rattle.mesh.specs.Answers.{accepted}
 
 pub narrow : {S : Sizes} {drawn : List ℕ} {g : Between} → Ready S drawn g → Inside largest (far g)
 narrow {S} {g = g} d = far_in S g d.sized d.held
@@ -45,7 +45,7 @@ pub picture_is : (m : Map) (s e : ℕ) (u v : Place) (g : Between) (drawn : List
 unfolding picture
 picture_is m s e u v g drawn is-u is-v is-g is = rw (is, is-g, is-u, is-v)
 
-module _ (S : Sizes) (cells : List ℕ) (s e : ℕ) (checked : check_ends S cells s e ≡ Done) where
+module _ (S : Sizes) (cells : List ℕ) (s e : ℕ) (checked : check_ends S cells s e ≡ accepted) where
   pub few : nodes S ≤ 4096
   few = nodes_le S (ends_granted S cells s e checked).sized
 

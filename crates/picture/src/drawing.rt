@@ -1,115 +1,100 @@
 // The picture of a refusal, layer by layer.
 ghost use Rattle.std.specs.Prelude.{◌≡◌, ◌+◌, ◌≤◌, ◌<◌, length};
 ghost use Rattle.mesh.specs.Cells.{map_of};
-ghost use Rattle.mesh.specs.declared.Answer.TheVariants.{Done};
 ghost use Rattle.paths.specs.Entries.{check_ends};
 ghost use Rattle.rows.specs.Box.{OnAxis, Ready};
-ghost use Rattle.text.specs.Text.{pieces, Said};
+ghost use Rattle.text.specs.Text.{pieces, Added};
 ghost use Rattle.picture.specs.Picture.{told_wide, symbol_at, column_text, row_text, row_in, layer_head, layer_text, picture};
 ghost use Rattle.picture.specs.Room.{symbols_room, row_room, rows_room, columns_room, layer_head_room, layers_room, picture_room, number_room};
+ghost use Rattle.mesh.specs.Answers.{accepted};
 
 use crate::ends::say_ends;
 use crate::symbols::draw;
 use mesh::Sizes;
 use rows::{Between, Run};
 use sweeps::boxes::between;
-use text::{say, tell};
+use text::Page;
 
 // A coordinate, told by one form where it has one digit and by another where it has two.
-fn tell_wide(one: &[u8], two: &[u8], n: usize, out: &mut [u8], at: usize) -> usize
-    requires { (length two.now ≤ length one.now) × (at + (length one.now + number_room) ≤ length out.old) }
-    ensures { Said out.old at (told_wide one.now two.now n) out.new result
-        × (result ≤ at + (length one.now + number_room)) }
+fn tell_wide<const N: usize>(page: &mut Page<N>, one: &[u8], two: &[u8], n: usize)
+    requires { (length two.now ≤ length one.now) × (length page.old + (length one.now + number_room) ≤ N) }
+    ensures { Added page.old (told_wide one.now two.now n) (length one.now + number_room) page.new }
 {
     if n < 10 {
-        return tell(one, &[n], out, at);
+        page.tell(one, &[n]);
+    } else {
+        page.tell(two, &[n]);
     }
-    tell(two, &[n], out, at)
 }
 
 // The symbols of a row of nodes.
-fn row_symbols(drawn: &[u8], row: Run, out: &mut [u8], at: usize) -> usize
-    requires { OnAxis row 4096 × OnAxis row (length drawn.now) × (row.steps < 16) × (at + symbols_room ≤ length out.old) }
-    ensures { Said out.old at (pieces (symbol_at drawn.now row) (row.steps + 1)) out.new result
-        × (result ≤ at + symbols_room) }
+fn row_symbols<const N: usize>(page: &mut Page<N>, drawn: &[u8], row: Run)
+    requires { OnAxis row 4096 × OnAxis row (length drawn.now) × (row.steps < 16) × (length page.old + symbols_room ≤ N) }
+    ensures { Added page.old (pieces (symbol_at drawn.now row) (row.steps + 1)) symbols_room page.new }
 {
-    let n = row.steps + 1;
-    let mut next = at;
-    for a in 0..n {
-        next = say(&[b' ', b' ', drawn[row.at(a)]], out, next);
+    for a in 0..row.steps + 1 {
+        page.say(&[b' ', b' ', drawn[row.at(a)]]);
     }
-    next
 }
 
 // A row of nodes.
-fn say_row(drawn: &[u8], y: usize, row: Run, out: &mut [u8], at: usize) -> usize
-    requires { OnAxis row 4096 × OnAxis row (length drawn.now) × (row.steps < 16) × (at + row_room ≤ length out.old) }
-    ensures { Said out.old at (row_text drawn.now y row) out.new result × (result ≤ at + row_room) }
+fn say_row<const N: usize>(page: &mut Page<N>, drawn: &[u8], y: usize, row: Run)
+    requires { OnAxis row 4096 × OnAxis row (length drawn.now) × (row.steps < 16) × (length page.old + row_room ≤ N) }
+    ensures { Added page.old (row_text drawn.now y row) row_room page.new }
 {
-    let label = tell_wide(b"    y  %  ", b"    y %  ", y, out, at);
-    let symbols = row_symbols(drawn, row, out, label);
+    tell_wide(page, b"    y  %  ", b"    y %  ", y);
+    row_symbols(page, drawn, row);
     let last = row.at(row.steps);
-    tell(b"   nodes % to %\n", &[row.from, last], out, symbols)
+    page.tell(b"   nodes % to %\n", &[row.from, last]);
 }
 
 // All rows of the layer after c steps.
-fn rows(s: Sizes, drawn: &[u8], g: Between, c: usize, out: &mut [u8], at: usize) -> usize
-    requires { Ready s drawn.now g × (c ≤ g.z.steps) × (at + rows_room ≤ length out.old) }
-    ensures { Said out.old at (pieces (row_in s drawn.now g c) (g.y.steps + 1)) out.new result
-        × (result ≤ at + rows_room) }
+fn rows<const N: usize>(page: &mut Page<N>, s: Sizes, drawn: &[u8], g: Between, c: usize)
+    requires { Ready s drawn.now g × (c ≤ g.z.steps) × (length page.old + rows_room ≤ N) }
+    ensures { Added page.old (pieces (row_in s drawn.now g c) (g.y.steps + 1)) rows_room page.new }
 {
     let y = g.y;
-    let n = y.steps + 1;
-    let mut next = at;
-    for b in 0..n {
-        next = say_row(drawn, y.at(b), g.row(s, b, c), out, next);
+    for b in 0..y.steps + 1 {
+        say_row(page, drawn, y.at(b), g.row(s, b, c));
     }
-    next
 }
 
 // The x of each column.
-fn columns(x: Run, out: &mut [u8], at: usize) -> usize
-    requires { OnAxis x 16 × (at + columns_room ≤ length out.old) }
-    ensures { Said out.old at (pieces (column_text x) (x.steps + 1)) out.new result × (result ≤ at + columns_room) }
+fn columns<const N: usize>(page: &mut Page<N>, x: Run)
+    requires { OnAxis x 16 × (length page.old + columns_room ≤ N) }
+    ensures { Added page.old (pieces (column_text x) (x.steps + 1)) columns_room page.new }
 {
-    let n = x.steps + 1;
-    let mut next = at;
-    for a in 0..n {
-        next = tell_wide(b"  %", b" %", x.at(a), out, next);
+    for a in 0..x.steps + 1 {
+        tell_wide(page, b"  %", b" %", x.at(a));
     }
-    next
 }
 
 // The z of a layer, and the columns.
-fn layer_head(z: usize, x: Run, out: &mut [u8], at: usize) -> usize
-    requires { OnAxis x 16 × (at + layer_head_room ≤ length out.old) }
-    ensures { Said out.old at (layer_head z x) out.new result × (result ≤ at + layer_head_room) }
+fn layer_head<const N: usize>(page: &mut Page<N>, z: usize, x: Run)
+    requires { OnAxis x 16 × (length page.old + layer_head_room ≤ N) }
+    ensures { Added page.old (layer_head z x) layer_head_room page.new }
 {
-    let head = tell(b"  layer z %\n    x     ", &[z], out, at);
-    let each = columns(x, out, head);
-    say(b"\n", out, each)
+    page.tell(b"  layer z %\n    x     ", &[z]);
+    columns(page, x);
+    page.say(b"\n");
 }
 
 // All layers.
-fn layers(s: Sizes, drawn: &[u8], g: Between, out: &mut [u8], at: usize) -> usize
-    requires { Ready s drawn.now g × (at + layers_room ≤ length out.old) }
-    ensures { Said out.old at (pieces (layer_text s drawn.now g) (g.z.steps + 1)) out.new result
-        × (result ≤ at + layers_room) }
+fn layers<const N: usize>(page: &mut Page<N>, s: Sizes, drawn: &[u8], g: Between)
+    requires { Ready s drawn.now g × (length page.old + layers_room ≤ N) }
+    ensures { Added page.old (pieces (layer_text s drawn.now g) (g.z.steps + 1)) layers_room page.new }
 {
     let z = g.z;
-    let n = z.steps + 1;
-    let mut next = at;
-    for c in 0..n {
-        let head = layer_head(z.at(c), g.x, out, next);
-        next = rows(s, drawn, g, c, out, head);
+    for c in 0..z.steps + 1 {
+        layer_head(page, z.at(c), g.x);
+        rows(page, s, drawn, g, c);
     }
-    next
 }
 
 // The whole picture of a transfer whose ends may be used.
-pub fn picture(s: Sizes, cells: &[u8], start: usize, end: usize, out: &mut [u8], at: usize) -> usize
-    requires { (check_ends s cells.now start end ≡ Done) × (at + picture_room ≤ length out.old) }
-    ensures { Said out.old at (picture (map_of s cells.now) start end) out.new result × (result ≤ at + picture_room) }
+pub fn picture<const N: usize>(page: &mut Page<N>, s: Sizes, cells: &[u8], start: usize, end: usize)
+    requires { (check_ends s cells.now start end ≡ accepted) × (length page.old + picture_room ≤ N) }
+    ensures { Added page.old (picture (map_of s cells.now) start end) picture_room page.new }
 {
     let mut drawn = [0u8; 4096];
     draw(s, cells, start, end, &mut drawn);
@@ -117,6 +102,6 @@ pub fn picture(s: Sizes, cells: &[u8], start: usize, end: usize, out: &mut [u8],
     let u = s.place(start);
     let v = s.place(end);
     let g = between(u, v);
-    let head = say_ends(u, v, g, out, at);
-    layers(s, &drawn[..n], g, out, head)
+    say_ends(page, u, v, g);
+    layers(page, s, &drawn[..n], g);
 }

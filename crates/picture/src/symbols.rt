@@ -3,9 +3,9 @@ ghost use Rattle.std.specs.Prelude.{◌≡◌, ◌≤◌, ◌++◌, length, get_
 ghost use Rattle.mesh.specs.Mesh.{nodes};
 ghost use Rattle.mesh.specs.Cells.{map_of};
 ghost use Rattle.mesh.specs.Fill.{Filled};
-ghost use Rattle.mesh.specs.declared.Answer.TheVariants.{Done};
 ghost use Rattle.paths.specs.Entries.{check_ends};
 ghost use Rattle.picture.specs.Picture.{symbol_of, symbols};
+ghost use Rattle.mesh.specs.Answers.{accepted};
 
 use maps::may_pass;
 use mesh::Sizes;
@@ -33,16 +33,16 @@ fn draw_over(cells: &[u8], start: usize, end: usize, drawn: &mut [u8])
     ensures { Filled (λ i. i) (λ i. symbol_of start end i (get_or drawn.old i 0) (get_or cells.now i 0))
         drawn.old drawn.new (length cells.now) }
 {
-    for k in 0..cells.len() {
-        drawn[k] = symbol(start, end, k, drawn[k], cells[k]);
+    for (k, &cell) in cells.iter().enumerate() {
+        drawn[k] = symbol(start, end, k, drawn[k], cell);
     }
 }
 
 // The symbols of all nodes, at the front of the lent bytes.
 pub(crate) fn draw(s: Sizes, cells: &[u8], start: usize, end: usize, drawn: &mut [u8])
-    requires { (check_ends s cells.now start end ≡ Done) × (length drawn.old ≡ 4096) }
+    requires { (check_ends s cells.now start end ≡ accepted) × (length drawn.old ≡ 4096) }
     ensures { drawn.new ≡ symbols (map_of s cells.now) start end ++ drop (nodes s) drawn.old }
 {
-    reached(s, cells, start, end, drawn);
+    let _ = reached(s, cells, start, end, drawn);
     draw_over(cells, start, end, drawn);
 }

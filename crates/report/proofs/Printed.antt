@@ -7,10 +7,11 @@ use native.Mathlib.Omega.{arith}
 use Rattle.mesh.specs.Order.{◌give◌}
 use Rattle.mesh.proofs.Numbers.{nodes_le}
 use Rattle.format.specs.Format.{sizes_in}
-use Rattle.format.specs.Entry.{map_read_no, read_answer}
+use Rattle.format.specs.Entry.{read_answer}
 use Rattle.format.specs.Promise.{read_checks}
 use Rattle.format.proofs.Promise.{read_order}
 use Rattle.report.specs.Report.{most_nodes}
+use Rattle.mesh.specs.Answers.{answer_no}
 
 given : (file : List ℕ) (n : ℕ) → read_checks file most_nodes give n → n ≢ 0 → (n ≡ 11) ⊎ ((n ≡ 1) ⊎ (n ≡ 4))
 given file n (inl p) z = inl p.1
@@ -20,5 +21,5 @@ given file n (inr (f, inr (s, inr (r, inl p)))) z = absurd (p.0 (omega (arith, n
 given file n (inr (f, inr (s, inr (r, inr (h, inl p))))) z = inr (inr p.1)
 given file n (inr (f, inr (s, inr (r, inr (h, inr (g, e)))))) z = absurd (z e)
 
-pub printed : (file : List ℕ) → let n = map_read_no (read_answer file most_nodes) in n ≢ 0 → (n ≡ 11) ⊎ ((n ≡ 1) ⊎ (n ≡ 4))
-printed file = given file (map_read_no (read_answer file most_nodes)) (read_order file most_nodes)
+pub printed : (file : List ℕ) → let n = answer_no (read_answer file most_nodes) in n ≢ 0 → (n ≡ 11) ⊎ ((n ≡ 1) ⊎ (n ≡ 4))
+printed file = given file (answer_no (read_answer file most_nodes)) (read_order file most_nodes)

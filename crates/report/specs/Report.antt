@@ -1,5 +1,5 @@
 -- 01, the program `meshreport`: the text that it prints for the bytes that it is given. Assumes nothing.
-use Rattle.std.specs.Prelude.{cond, List, [], ◌∷◌, ◌++◌, ℕ, zero, suc, eqb}
+use Rattle.std.specs.Prelude.{cond, List, [], ◌∷◌, ◌++◌, ℕ, zero, suc, eqb, Ok, Err, Result}
 use Rattle.mesh.specs.Cells.{Map, map_of}
 use Rattle.mesh.specs.Answers.{refusal_no}
 use Rattle.mesh.specs.declared.Sizes.{Sizes}
@@ -7,11 +7,10 @@ use Rattle.rules.specs.Marks.{useless, cant_reach, marks_of}
 use Rattle.touching.specs.Components.{how_many}
 use Rattle.format.specs.Format.{cells_in}
 use Rattle.format.specs.Entry.{read_answer}
-use Rattle.format.specs.declared.MapRead.{MapRead}
-use Rattle.format.specs.declared.MapRead.TheVariants.{Read, NotRead}
 use Rattle.text.specs.Text.{ascii, told}
 use Rattle.counts.specs.Counts.{faulty_count, marked_count}
 use Rattle.report.specs.declared.Figures.{Figures}
+use Rattle.mesh.specs.declared.Refusal.{Refusal}
 
 -- all figures of an orientation, with the "number of components"
 abbrev pub figures_of : Map → ℕ → Figures
@@ -46,9 +45,9 @@ map_report m = first_line m.sizes (faulty_count m) ++ octant_lines m (orientatio
 abbrev pub refusal_line : ℕ → List ℕ
 refusal_line n = told (ascii "refused %\n") (n ∷ [])
 
-abbrev pub report_on : MapRead → List ℕ → List ℕ
-report_on (Read S) cells = map_report (map_of S cells)
-report_on (NotRead r) cells = refusal_line (refusal_no r)
+abbrev pub report_on : Result Sizes Refusal → List ℕ → List ℕ
+report_on (Ok S) cells = map_report (map_of S cells)
+report_on (Err r) cells = refusal_line (refusal_no r)
 
 -- the report on a file, whose cells are read into room for the largest mesh
 abbrev pub most_nodes : ℕ

@@ -7,7 +7,7 @@ pub mod reporting;
 pub mod running;
 
 // The figures of a map in one orientation.
-#[derive(Clone, Copy)]
+#[derive(Clone, Copy, Debug, PartialEq, Eq)]
 pub struct Figures {
     pub useless: usize,
     pub cannot_reach: usize,

@@ -1,38 +1,39 @@
 // The lines of the report.
 ghost use Rattle.std.specs.Prelude.{◌+◌, ◌≤◌, length};
-ghost use Rattle.text.specs.Text.{Said};
+ghost use Rattle.text.specs.Text.{Added};
 ghost use Rattle.report.specs.Report.{first_line, octant_line, refusal_line};
 ghost use Rattle.report.specs.Room.{line_room};
 
 use crate::Figures;
 use mesh::Sizes;
-use text::tell;
+use text::Page;
 
 // The first line: sizes and faulty nodes.
-pub fn first_line(s: Sizes, faulty: usize, out: &mut [u8], at: usize) -> usize
-    requires { at + line_room ≤ length out.old }
-    ensures { Said out.old at (first_line s faulty) out.new result × (result ≤ at + line_room) }
+#[tactic(auto, using(text::proofs::Adding::added_within))]
+pub fn first_line<const N: usize>(page: &mut Page<N>, s: Sizes, faulty: usize)
+    requires { length page.old + line_room ≤ N }
+    ensures { Added page.old (first_line s faulty) line_room page.new }
 {
-    tell(b"mesh % % % faulty %\n", &[s.w, s.h, s.d, faulty], out, at)
+    page.tell(b"mesh % % % faulty %\n", &[s.w, s.h, s.d, faulty]);
 }
 
 // A line for an orientation.
-pub(crate) fn octant_line(o: usize, f: Figures, out: &mut [u8], at: usize) -> usize
-    requires { at + line_room ≤ length out.old }
-    ensures { Said out.old at (octant_line o f) out.new result × (result ≤ at + line_room) }
+#[tactic(auto, using(text::proofs::Adding::added_within))]
+pub(crate) fn octant_line<const N: usize>(page: &mut Page<N>, o: usize, f: Figures)
+    requires { length page.old + line_room ≤ N }
+    ensures { Added page.old (octant_line o f) line_room page.new }
 {
-    tell(
+    page.tell(
         b"octant % useless % cannot-reach % components %\n",
         &[o, f.useless, f.cannot_reach, f.components],
-        out,
-        at,
-    )
+    );
 }
 
 // The only line of a refusal.
-pub fn refusal_line(n: usize, out: &mut [u8], at: usize) -> usize
-    requires { at + line_room ≤ length out.old }
-    ensures { Said out.old at (refusal_line n) out.new result × (result ≤ at + line_room) }
+#[tactic(auto, using(text::proofs::Adding::added_within))]
+pub fn refusal_line<const N: usize>(page: &mut Page<N>, n: usize)
+    requires { length page.old + line_room ≤ N }
+    ensures { Added page.old (refusal_line n) line_room page.new }
 {
-    tell(b"refused %\n", &[n], out, at)
+    page.tell(b"refused %\n", &[n]);
 }

@@ -1,19 +1,11 @@
--- How many links there are, and rounds one step on. Assumes nothing.
+-- Rounds one step on. Assumes nothing.
 use mathlib.Core.Path.{◌≡◌, refl}
 use mathlib.Core.List.{List}
-use Prim.Native.Nat.{ℕ, ◌+◌, ◌*◌, ◌<◌, ◌≤◌}
-use native.Mathlib.Nat.{mul-le-mul}
+use Prim.Native.Nat.{ℕ, ◌+◌}
 use native.Mathlib.Numerals.{add-one}
-use native.Mathlib.Omega.{arith}
-use Rattle.mesh.specs.Mesh.{InRange, nodes}
 use Rattle.mesh.specs.declared.Sizes.{Sizes}
 use Rattle.rounds.specs.Links.{Net, saying, comes, visit}
 use Rattle.rounds.specs.Rounds.{met, visits, tells}
-
-pub some_nodes : (S : Sizes) → InRange S → 0 < nodes S
-some_nodes S r =
-    let l : 2 * (2 * 1) ≤ nodes S = mul-le-mul r.w_lo (mul-le-mul r.h_lo r.d_lo) in
-    omega arith
 
 module _ (S : Sizes) (o : ℕ) where
   pub no_visit : (first stride : ℕ) (n : Net) → n ≡ visits S o first stride n 0

@@ -2,18 +2,22 @@
 use mathlib.Core.Path.{◌≡◌, refl, sym, ap, ap₂, ◌∙◌}
 use mathlib.Core.Bool.{Bool, true, false, not}
 use mathlib.Core.List.{List}
-use Prim.Native.Nat.{ℕ, zero, suc, ◌+◌, ◌/◌, ◌%◌, ◌<◌}
+use Prim.Native.Nat.{ℕ, zero, suc, ◌+◌, ◌-◌, ◌*◌, ◌<◌, ◌≤◌}
+use Rattle.std.proofs.Common.{◌++◌, drop, length, get_or, length-append, length-drop}
+use Rattle.std.proofs.lemmas.List.{get_or_append_left, get_or-drop, drop-drop, drop_at}
 use native.Mathlib.Omega.{arith}
-use lib.Dec.{eqb}
-use Rattle.mesh.specs.Tools.{bit, sum, count}
+use lib.Bits.{bit_and}
+use lib.Count.{ones}
+use lib.Dec.{T, eqb}
+use Rattle.mesh.specs.Tools.{bit, all, sum, count}
 use Rattle.mesh.specs.Mesh.{nodes, place_of}
 use Rattle.mesh.specs.Cells.{Map, map_of}
 use Rattle.rules.specs.Marks.{Kind, useless, cant_reach, has, holds, mark_at}
-use Rattle.mesh.specs.Answers.{check_map}
+use Rattle.mesh.specs.Answers.{check_map, accepted}
 use Rattle.mesh.specs.declared.Sizes.{Sizes}
-use Rattle.mesh.specs.declared.Answer.TheVariants.{Done}
-use Rattle.mesh.specs.declared.Numbered.TheVariants.{Number, NotNumbered}
 use Rattle.mesh.specs.declared.Refusal.{Refusal}
+use Rattle.mesh.proofs.Bits.{bit_le}
+use Rattle.mesh.proofs.Tests.{T-eq, T-all}
 use Rattle.mesh.proofs.Tables.{sum_same}
 use Rattle.mesh.proofs.Numbers.{place_in}
 use Rattle.rules.proofs.Bytes.{mark_has}
@@ -27,6 +31,7 @@ use Rattle.counts.proofs.Counted.{faulty_counted}
 use Rattle.rounds.specs.Links.{Fit}
 use Rattle.rounds.specs.Figures.{how_many_marks, marks_held}
 use Rattle.rounds.proofs.Coming.{ranged}
+use Rattle.std.specs.Prelude.{Ok, Err}
 
 -- what passes a test and what does not are all
 parts : (n : ℕ) (p : ℕ → Bool) → count n (λ k. not (p k)) + count n p ≡ n
@@ -38,33 +43,47 @@ parts (suc n) p = omega (arith, parts n p, one (p n))
     one true = refl
     one false = refl
 
-pub workers_counted : (S : Sizes) (cells : List ℕ) → check_map S cells ≡ Done → workers (map_of S cells) + faulty_among cells ≡ nodes S
+pub workers_counted : (S : Sizes) (cells : List ℕ) → check_map S cells ≡ accepted → workers (map_of S cells) + faulty_among cells ≡ nodes S
 unfolding faulty_count
 workers_counted S cells d =
     ap (λ (n : ℕ). workers (map_of S cells) + n) (faulty_counted S cells d) ∙ parts (nodes S) (faulty_node (map_of S cells))
 
-outstanding_answered : (S : Sizes) (o : ℕ) (s : List ℕ) → Fit S o s → outstanding_answer S o s ≡ Number (outstanding S s)
+outstanding_answered : (S : Sizes) (o : ℕ) (s : List ℕ) → Fit S o s → outstanding_answer S o s ≡ Ok (outstanding S s)
 unfolding outstanding
 outstanding_answered S o s f = counts (map_in S s) o (ranged S o s f) f.turned s f.sound
 
 -- so it is not refused, and the number is that one
-pub not_refused : (S : Sizes) (o : ℕ) (s : List ℕ) → Fit S o s → (r : Refusal) → outstanding_answer S o s ≡ NotNumbered r → ⊥
+pub not_refused : (S : Sizes) (o : ℕ) (s : List ℕ) → Fit S o s → (r : Refusal) → outstanding_answer S o s ≡ Err r → ⊥
 not_refused S o s f r e =
-    let h : Number (outstanding S s) ≡ NotNumbered r = sym (outstanding_answered S o s f) ∙ e in
+    let h : Ok (outstanding S s) ≡ Err r = sym (outstanding_answered S o s f) ∙ e in
     let z : ◌≡◌ {A = ℕ} 0 1 = cc in
     omega arith
 
-pub the_number : (S : Sizes) (o : ℕ) (s : List ℕ) → Fit S o s → (n : ℕ) → outstanding_answer S o s ≡ Number n → n ≡ outstanding S s
-the_number S o s f n e = let h : Number (outstanding S s) ≡ Number n = sym (outstanding_answered S o s f) ∙ e in cc
+pub the_number : (S : Sizes) (o : ℕ) (s : List ℕ) → Fit S o s → (n : ℕ) → outstanding_answer S o s ≡ Ok n → n ≡ outstanding S s
+the_number S o s f n e = let h : Ok (outstanding S s) ≡ Ok n = sym (outstanding_answered S o s f) ∙ e in cc
 
-bit_of : (n : ℕ) → n < 2 → bit (eqb n 1) ≡ n
-bit_of zero h = refl
-bit_of (suc zero) h = refl
-bit_of (suc (suc n)) h = absurd (omega arith)
+-- a byte's marks are bits of it
+all_counted : T (all 256 λ b. eqb (ones (bit_and b 6)) (how_many_marks b))
+unfolding all has ones
+all_counted = tt
 
-pub marks_counted : (b : ℕ) → b / 2 % 2 + b / 4 % 2 ≡ how_many_marks b
-unfolding has
-marks_counted b = omega (arith, bit_of (b / 2 % 2) (omega arith), bit_of (b / 4 % 2) (omega arith))
+pub marks_counted : (b : ℕ) → b < 256 → ones (bit_and b 6) ≡ how_many_marks b
+marks_counted b h = (T-eq (ones (bit_and b 6)) (how_many_marks b)).0 ((T-all 256 λ b. eqb (ones (bit_and b 6)) (how_many_marks b)).0 all_counted b h)
+
+pub marks_few : (b : ℕ) → how_many_marks b ≤ 2
+marks_few b = omega (arith, bit_le (has b useless), bit_le (has b cant_reach))
+
+-- the next seven bytes of a state are those of the next node
+pub next_node : (s x rest : List ℕ) (n : ℕ) → drop (7 * n) s ≡ x ++ rest → length x ≡ 7
+    → (rest ≡ drop (7 * (n + 1)) s) × (get_or x 0 0 ≡ own s n) × (7 * (n + 1) ≤ length s)
+next_node s x rest n e l =
+    let after : drop 7 (drop (7 * n) s) ≡ drop (7 * (n + 1)) s = drop-drop 7 (7 * n) s ∙ ap (λ (i : ℕ). drop i s) (omega arith) in
+    let first : get_or (x ++ rest) 0 0 ≡ get_or x 0 0 = get_or_append_left x rest 0 0 (omega arith) in
+    let whole : length s - 7 * n ≡ length x + length rest = sym (length-drop (7 * n) s) ∙ ap length e ∙ length-append x rest in (
+      sym (drop_at x rest 7 l) ∙ ap (drop 7) (sym e) ∙ after,
+      sym first ∙ ap (λ (b : List ℕ). get_or b 0 0) (sym e) ∙ get_or-drop (7 * n) s 0 0 ∙ ap (λ (i : ℕ). get_or s i 0) (omega arith),
+      omega arith,
+    )
 
 -- two counts at once
 both : (n : ℕ) (f g : ℕ → ℕ) → sum n (λ k. f k + g k) ≡ sum n f + sum n g

@@ -5,7 +5,9 @@ use Prim.Native.Nat.{ℕ, zero, suc, ◌/◌, ◌%◌, ◌<◌}
 use native.Mathlib.Omega.{arith}
 use lib.ListN.{length, length-set, get_or}
 use Rattle.mesh.specs.declared.Sizes.{Sizes}
-use Rattle.rounds.specs.Chance.{following, chosen, Fate, lost, late, twice, once, fate_of}
+use Rattle.rounds.specs.Chance.{following, chosen, fate_of}
+use Rattle.rounds.specs.declared.chance.Fate.{Fate}
+use Rattle.rounds.specs.declared.chance.Fate.TheVariants.{Lost, Late, Twice, Once}
 use Rattle.rounds.specs.Links.{links, Net, saying, comes, state_by, way_by, visit, Fit, Going}
 use Rattle.rounds.specs.Rounds.{met, visits, tells}
 use Rattle.rounds.proofs.Coming.{hear_fit}
@@ -19,18 +21,18 @@ module _ (S : Sizes) (o : ℕ) where
   come_fit s f l w = hear_fit S o s f (l / 6) (l % 6) w
 
   state_fit : (n : Net) → Going S o n → (l : ℕ) (f : Fate) → Fit S o (state_by S o n l f)
-  state_fit n g l lost = g.fit
-  state_fit n g l late = come_fit n.state g.fit l (get_or n.way l 0)
-  state_fit n g l twice =
+  state_fit n g l Lost = g.fit
+  state_fit n g l Late = come_fit n.state g.fit l (get_or n.way l 0)
+  state_fit n g l Twice =
       let w = saying S n.state l in
       come_fit (comes S o l w n.state) (come_fit n.state g.fit l w) l w
-  state_fit n g l once = come_fit n.state g.fit l (saying S n.state l)
+  state_fit n g l Once = come_fit n.state g.fit l (saying S n.state l)
 
   way_room : (n : Net) → Going S o n → (l : ℕ) (f : Fate) → length (way_by S n l f) ≡ links S
-  way_room n g l lost = g.room
-  way_room n g l late = length-set n.way l (saying S n.state l) ∙ g.room
-  way_room n g l twice = g.room
-  way_room n g l once = g.room
+  way_room n g l Lost = g.room
+  way_room n g l Late = length-set n.way l (saying S n.state l) ∙ g.room
+  way_room n g l Twice = g.room
+  way_room n g l Once = g.room
 
   visit_going : (n : Net) → Going S o n → (l : ℕ) → Going S o (visit S o n l)
   unfolding visit

@@ -14,7 +14,9 @@ use Rattle.talk.specs.Rounds.{hearing, Later}
 use Rattle.talk.proofs.Later.{later_refl, later_trans}
 use Rattle.talk.proofs.Exists.{sweep, sweep_kept}
 use Rattle.talk.proofs.Fresh.{fresh_promise}
-use Rattle.rounds.specs.Chance.{following, chosen, Fate, lost, late, twice, once, fate_of}
+use Rattle.rounds.specs.Chance.{following, chosen, fate_of}
+use Rattle.rounds.specs.declared.chance.Fate.{Fate}
+use Rattle.rounds.specs.declared.chance.Fate.TheVariants.{Lost, Late, Twice, Once}
 use Rattle.rounds.specs.Links.{links, Net, net, saying, comes, state_by, visit, Going}
 use Rattle.rounds.specs.Rounds.{strides, met, visits, lossy_round, full_round, lossy_rounds, one_round, after_rounds}
 use Rattle.rounds.proofs.Going.{following_small, visits_going, tells_fit}
@@ -25,13 +27,13 @@ module _ (S : Sizes) (o : ℕ) where
   come_later s l w = record { calls = hearing (l / 6) (l % 6) w ∷ []; kept = tt; ends = refl }
 
   state_later : (n : Net) (l : ℕ) (f : Fate) → Later S o n.state (state_by S o n l f)
-  state_later n l lost = later_refl S o n.state
-  state_later n l late = come_later n.state l (get_or n.way l 0)
-  state_later n l twice =
+  state_later n l Lost = later_refl S o n.state
+  state_later n l Late = come_later n.state l (get_or n.way l 0)
+  state_later n l Twice =
       let w = saying S n.state l in
       let t = comes S o l w n.state in
       later_trans S o n.state t (comes S o l w t) (come_later n.state l w) (come_later t l w)
-  state_later n l once = come_later n.state l (saying S n.state l)
+  state_later n l Once = come_later n.state l (saying S n.state l)
 
   visit_later : (n : Net) (l : ℕ) → Later S o n.state (visit S o n l).state
   unfolding visit

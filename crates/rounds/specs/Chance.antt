@@ -1,5 +1,7 @@
 -- The numbers by which words are lost, repeated, late and out of order: always the same ones. Assumes nothing.
 use Rattle.std.specs.Prelude.{cond, ℕ, ◌+◌, ◌*◌, ◌/◌, ◌%◌, ltb}
+use Rattle.rounds.specs.declared.chance.Fate.{Fate}
+use Rattle.rounds.specs.declared.chance.Fate.TheVariants.{Lost, Late, Twice, Once}
 
 -- the number before the first
 abbrev pub seed : ℕ
@@ -14,8 +16,5 @@ unfoldable pub chosen : ℕ → ℕ → ℕ
 chosen n g = g / 65536 % n
 
 -- what becomes of a word: of eight, two are lost, two are late, one comes twice and three come once
-pub data Fate : Type 0 where
-  lost late twice once : Fate
-
 abbrev pub fate_of : ℕ → Fate
-fate_of c = cond (ltb c 2) lost (cond (ltb c 4) late (cond (ltb c 5) twice once))
+fate_of c = cond (ltb c 2) Lost (cond (ltb c 4) Late (cond (ltb c 5) Twice Once))

@@ -5,7 +5,9 @@ use Rattle.mesh.specs.declared.Sizes.{Sizes}
 use Rattle.talk.specs.State.{says}
 use Rattle.talk.specs.Sound.{Sound}
 use Rattle.talk.specs.Entries.{hear_out}
-use Rattle.rounds.specs.Chance.{following, chosen, Fate, lost, late, twice, once, fate_of}
+use Rattle.rounds.specs.Chance.{following, chosen, fate_of}
+use Rattle.rounds.specs.declared.chance.Fate.{Fate}
+use Rattle.rounds.specs.declared.chance.Fate.TheVariants.{Lost, Late, Twice, Once}
 
 -- a link for each listener and direction: link l leads to node l / 6, from its neighbour in direction l % 6
 abbrev pub links : Sizes → ℕ
@@ -35,16 +37,16 @@ comes S o l w s = hear_out S o (l / 6) (l % 6) w s
 -- The word of link l meets its fate. A word that is late takes the place of the one that was on the way, which comes now: later words may
 -- have come before it.
 abbrev pub state_by : Sizes → ℕ → Net → ℕ → Fate → List ℕ
-state_by S o n l lost = n.state
-state_by S o n l late = comes S o l (get_or n.way l 0) n.state
-state_by S o n l twice = comes S o l (saying S n.state l) (comes S o l (saying S n.state l) n.state)
-state_by S o n l once = comes S o l (saying S n.state l) n.state
+state_by S o n l Lost = n.state
+state_by S o n l Late = comes S o l (get_or n.way l 0) n.state
+state_by S o n l Twice = comes S o l (saying S n.state l) (comes S o l (saying S n.state l) n.state)
+state_by S o n l Once = comes S o l (saying S n.state l) n.state
 
 abbrev pub way_by : Sizes → Net → ℕ → Fate → List ℕ
-way_by S n l lost = n.way
-way_by S n l late = set n.way l (saying S n.state l)
-way_by S n l twice = n.way
-way_by S n l once = n.way
+way_by S n l Lost = n.way
+way_by S n l Late = set n.way l (saying S n.state l)
+way_by S n l Twice = n.way
+way_by S n l Once = n.way
 
 abbrev pub draw_by : Sizes → ℕ → Net → ℕ → ℕ → Net
 draw_by S o n l g = net (state_by S o n l (fate_of (chosen 8 g))) (way_by S n l (fate_of (chosen 8 g))) g

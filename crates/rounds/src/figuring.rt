@@ -1,8 +1,7 @@
 // What is told of a map and of a state.
 ghost use Rattle.std.specs.Prelude.{◌≡◌, ◌≤◌};
-ghost use Rattle.mesh.specs.Answers.{check_map};
+ghost use Rattle.mesh.specs.Answers.{check_map, accepted};
 ghost use Rattle.mesh.specs.Cells.{map_of};
-ghost use Rattle.mesh.specs.declared.Answer.TheVariants.{Done};
 ghost use Rattle.talk.specs.Hear.{outstanding};
 ghost use Rattle.talk.specs.Promise.{workers};
 ghost use Rattle.states.specs.Six.{Ready};
@@ -11,34 +10,30 @@ ghost use Rattle.rounds.specs.Figures.{how_many_marks, marks_held};
 
 use counts::count_faulty;
 use field::entry::outstanding;
-use mesh::{Numbered, Sizes};
+use mesh::Sizes;
 
 // How many nodes work.
 pub fn working(s: Sizes, cells: &[u8]) -> usize
-    requires { check_map s cells.now ≡ Done }
+    requires { check_map s cells.now ≡ accepted }
     ensures { (result ≡ workers (map_of s cells.now)) × (result ≤ 4096) }
 {
     s.nodes() - count_faulty(cells)
 }
 
 // How much news is outstanding.
+#[tactic(auto, using(crate::proofs::Figures::not_refused, crate::proofs::Figures::the_number))]
 pub fn news(s: Sizes, o: usize, state: &[u8]) -> usize
     requires { Fit s o state.now }
     ensures { result ≡ outstanding s state.now }
 {
-    let a = outstanding(s, o, state);
-    let Numbered::Number(n) = a else {
-        return 0;
-    };
-    n
+    outstanding(s, o, state).unwrap_or(0)
 }
 
 // How many marks a byte holds.
 fn how_many_marks(b: u8) -> usize
     ensures { (result ≡ how_many_marks b) × (result ≤ 2) }
 {
-    let n = b / 2 % 2 + b / 4 % 2;
-    n as usize
+    (b & 6).count_ones() as usize
 }
 
 // How many marks the nodes hold.
@@ -47,8 +42,8 @@ pub fn marks_held(s: Sizes, state: &[u8]) -> usize
     ensures { result ≡ marks_held s state.now }
 {
     let mut held = 0;
-    for k in 0..s.nodes() {
-        held += how_many_marks(state[7 * k]);
+    for node in state.chunks_exact(7) {
+        held += how_many_marks(node[0]);
     }
     held
 }

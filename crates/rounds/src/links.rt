@@ -1,11 +1,12 @@
-// Words over one link: link l leads to node l / 6, from its neighbour in direction l % 6.
-ghost use Rattle.std.specs.Prelude.{◌≡◌, not, ◌&&◌, ◌/◌, ◌%◌, ◌<◌, eqb, length, get_or, set};
+// Words over one link: link l leads to node l / 6, from its neighbour in direction l % 6. State, words on the way and number drawn are no struct:
+// one that holds a `&mut` has each contract say that its loans stay the same (`ghost_name`).
+ghost use Rattle.std.specs.Prelude.{◌≡◌, ℕ, not, ◌&&◌, ◌/◌, ◌%◌, ◌<◌, eqb, length, get_or, set};
 ghost use Rattle.mesh.specs.Mesh.{nodes};
 ghost use Rattle.talk.specs.State.{map_in, heard, pair};
 ghost use Rattle.states.specs.Six.{Ready};
-ghost use Rattle.rounds.specs.Links.{links, net, saying, comes, visit, Fit, Going};
+ghost use Rattle.rounds.specs.Links.{links, net, saying, comes, state_by, way_by, visit, Fit, Going};
 
-use crate::chance::{chosen, following};
+use crate::chance::{Fate, following};
 use field::entry::hear;
 use mesh::Sizes;
 use states::pairs::{pair, says};
@@ -28,7 +29,7 @@ pub fn come(s: Sizes, o: usize, link: usize, word: u8, state: &mut [u8])
     if !brings(s, state, k, j, word) {
         return;
     }
-    hear(s, o, k, j, word as usize, state);
+    let _ = hear(s, o, k, j, word as usize, state);
 }
 
 // The word that its speaker holds.
@@ -51,32 +52,32 @@ fn swap(s: Sizes, o: usize, link: usize, state: &mut [u8], way: &mut [u8])
     come(s, o, link, earlier, state);
 }
 
-// A number is drawn, and the word of the link meets its fate.
-pub fn visit(
-    s: Sizes,
-    o: usize,
-    link: usize,
-    state: &mut [u8],
-    way: &mut [u8],
-    drawn: usize,
-) -> usize
+// The word of the link meets its fate.
+fn meet(s: Sizes, o: usize, link: usize, fate: Fate, state: &mut [u8], way: &mut [u8])
+    requires { Fit s o state.old × (link < links s) × (length way.old ≡ links s) }
+    ensures { (drawn : ℕ) → let n = net state.old way.old drawn in (state.new ≡ state_by s o n link fate) × (way.new ≡ way_by s n link fate) }
+{
+    match fate {
+        Fate::Lost => {}
+        Fate::Late => swap(s, o, link, state, way),
+        Fate::Twice => {
+            let word = saying(s, state, link);
+            come(s, o, link, word, state);
+            come(s, o, link, word, state);
+        }
+        Fate::Once => {
+            let word = saying(s, state, link);
+            come(s, o, link, word, state);
+        }
+    }
+}
+
+// A number is drawn, and it chooses the fate of the link's word.
+pub fn visit(s: Sizes, o: usize, link: usize, state: &mut [u8], way: &mut [u8], drawn: u32) -> u32
     requires { Going s o (net state.old way.old drawn) × (link < links s) }
     ensures { net state.new way.new result ≡ visit s o (net state.old way.old drawn) link }
 {
     let g = following(drawn);
-    let fate = chosen(8, g);
-    if fate < 2 {
-        return g;
-    }
-    if fate < 4 {
-        swap(s, o, link, state, way);
-        return g;
-    }
-    let word = saying(s, state, link);
-    come(s, o, link, word, state);
-    if fate > 4 {
-        return g;
-    }
-    come(s, o, link, word, state);
+    meet(s, o, link, Fate::of(g), state, way);
     g
 }

@@ -27,21 +27,21 @@ pub fn links(s: Sizes) -> usize
 }
 
 // A stride by the number drawn.
-fn stride(g: usize) -> usize
+fn stride(g: u32) -> usize
     ensures { (result ≡ get_or strides (chosen 4 g) 0) × (result ≤ 24631) }
 {
-    STRIDES[chosen(4, g)]
+    STRIDES[chosen(4, g as usize)]
 }
 
 // A round with loss: a visit to each link, in an order that two numbers choose.
-fn lossy_round(s: Sizes, o: usize, state: &mut [u8], way: &mut [u8], drawn: usize) -> usize
+fn lossy_round(s: Sizes, o: usize, state: &mut [u8], way: &mut [u8], drawn: u32) -> u32
     requires { Going s o (net state.old way.old drawn) }
     ensures { net state.new way.new result ≡ lossy_round s o (net state.old way.old drawn) }
 {
     let g = following(drawn);
     let mut last = following(g);
     let n = links(s);
-    let first = chosen(n, g);
+    let first = chosen(n, g as usize);
     let step = stride(last);
     for i in 0..n {
         last = visit(s, o, (first + step * i) % n, state, way, last);
@@ -61,14 +61,8 @@ fn full_round(s: Sizes, o: usize, state: &mut [u8])
 }
 
 // The round after r rounds.
-pub fn one_round(
-    s: Sizes,
-    o: usize,
-    r: usize,
-    state: &mut [u8],
-    way: &mut [u8],
-    drawn: usize,
-) -> usize
+#[tactic(auto, unfolding(crate::specs::Rounds::one_round))]
+pub fn one_round(s: Sizes, o: usize, r: usize, state: &mut [u8], way: &mut [u8], drawn: u32) -> u32
     requires { Going s o (net state.old way.old drawn) }
     ensures { net state.new way.new result ≡ one_round s o r (net state.old way.old drawn) }
 {

@@ -1,61 +1,32 @@
--- The checks of the ends of a route, one after another, and what they grant; and the answers that follow. Assumes nothing.
-use mathlib.Core.Path.{◌≡◌, sym, ◌∙◌}
-use mathlib.Core.Bool.{true, false}
+-- What the checks of the ends of a route grant, and when a path leads from one to the other. Assumes nothing.
+use mathlib.Core.Path.{◌≡◌, refl, subst}
+use mathlib.Core.Bool.{Bool, true, false, ◌&&◌}
 use mathlib.Core.List.{List}
 use Prim.Native.Nat.{ℕ}
-use lib.ListN.{get_or}
-use lib.Dec.{ltb}
-use Rattle.mesh.specs.Mesh.{nodes, place_of}
+use native.Mathlib.Nat.{lt_of_not-le}
+use native.Mathlib.Omega.{arith}
+use borrow.Author.Tests.{ltb-false, eqb-false}
+use lib.Dec.{eqb, ltb}
+use Rattle.mesh.specs.Mesh.{place_of, Inside}
 use Rattle.mesh.specs.Cells.{Map, map_of, cell_at, may_end}
-use Rattle.mesh.specs.Answers.{◌and_then◌, check_map, check_node}
-use Rattle.mesh.proofs.Tests.{holds_true}
-use Rattle.mesh.proofs.Numbers.{number_of, place_in}
+use Rattle.mesh.specs.Answers.{◌and_then◌, check_map, check_node, accepted}
+use Rattle.mesh.proofs.Tests.{T-and, T-eq, T-lt, bool_ext, holds_true}
+use Rattle.mesh.proofs.Numbers.{place_in}
 use Rattle.mesh.proofs.Answers.{split, ok_of, node_granted, map_granted}
 use Rattle.mesh.specs.declared.Sizes.{Sizes}
-use Rattle.mesh.specs.declared.Refusal.{Refusal}
-use Rattle.mesh.specs.declared.Refusal.TheVariants.{BadNumber, FaultyEnd, NoPath}
-use Rattle.mesh.specs.declared.Answer.{Answer}
-use Rattle.mesh.specs.declared.Answer.TheVariants.{Done, Refused}
+use Rattle.mesh.specs.declared.Place.{Place}
+use Rattle.mesh.specs.declared.Refusal.TheVariants.{FaultyEnd}
 use Rattle.paths.specs.Differences.{hops}
 use Rattle.paths.specs.Paths.{leads}
 use Rattle.paths.specs.Offered.{offered}
-use Rattle.paths.specs.Entries.{check_end, check_ends, verdict_check, verdict_answer}
-use Rattle.paths.specs.declared.Verdict.TheVariants.{Granted, NotGranted}
+use Rattle.paths.specs.Entries.{check_end, check_ends}
+use Rattle.paths.proofs.Differences.{hops_zero}
+use Rattle.paths.proofs.Offered.{offered_none, offered_leads}
+use Rattle.paths.proofs.Reached.{start_reached}
 use Rattle.sweeps.specs.Sweep.{Ends}
 
 module _ (S : Sizes) (cells : List ℕ) (s e : ℕ) where
-  -- ---- the checks
-
-  pub ends_map : (r : Refusal) → check_map S cells ≡ Refused r → Refused r ≡ check_ends S cells s e
-  unfolding check_ends
-  ends_map r h = rw h
-
-  module _ (good : check_map S cells ≡ Done) where
-    pub ends_5 : ltb s (nodes S) ≡ false → Refused BadNumber ≡ check_ends S cells s e
-    unfolding check_ends
-    ends_5 h = rw (good, h)
-
-    pub ends_5' : ltb s (nodes S) ≡ true → ltb e (nodes S) ≡ false → Refused BadNumber ≡ check_ends S cells s e
-    unfolding check_ends
-    ends_5' h k = rw (good, h, k)
-
-    pub ends_9 : ltb s (nodes S) ≡ true → ltb e (nodes S) ≡ true → may_end (get_or cells s 0) ≡ false → Refused FaultyEnd ≡ check_ends S cells s e
-    unfolding check_ends
-    ends_9 h k a = rw (good, h, k, number_of S s, a)
-
-    pub ends_9' : ltb s (nodes S) ≡ true → ltb e (nodes S) ≡ true → may_end (get_or cells s 0) ≡ true → may_end (get_or cells e 0) ≡ false
-        → Refused FaultyEnd ≡ check_ends S cells s e
-    unfolding check_ends
-    ends_9' h k a b = rw (good, h, k, number_of S s, a, number_of S e, b)
-
-    pub ends_0 : ltb s (nodes S) ≡ true → ltb e (nodes S) ≡ true → may_end (get_or cells s 0) ≡ true → may_end (get_or cells e 0) ≡ true
-        → Done ≡ check_ends S cells s e
-    unfolding check_ends
-    ends_0 h k a b = rw (good, h, k, number_of S s, a, number_of S e, b)
-
-  -- ---- what they grant
-
-  pub ends_granted : check_ends S cells s e ≡ Done → Ends S cells (place_of S s) (place_of S e)
+  pub ends_granted : check_ends S cells s e ≡ accepted → Ends S cells (place_of S s) (place_of S e)
   unfolding check_ends
   ends_granted h =
       let m : Map = map_of S cells in
@@ -73,25 +44,22 @@ module _ (S : Sizes) (cells : List ℕ) (s e : ℕ) where
         end_may = (holds_true (may_end (cell_at m (place_of S e)))).1 (ok_of (may_end (cell_at m (place_of S e))) FaultyEnd b);
       }
 
-  -- past the checks, as a call is
-  abbrev pub Past : Type 0
-  Past = (check_ends S cells s e ≡ Done) × Ends S cells (place_of S s) (place_of S e)
+-- ---- a start that is not the end has a path exactly if something is offered
 
-  pub past_ends : (a : Answer) → a ≡ check_ends S cells s e → a ≡ Done → Past
-  past_ends a e d = (sym e ∙ d, ends_granted (sym e ∙ d))
+module _ (m : Map) (p e : Place) (i : Inside m.sizes p) where
+  pub no_path : eqb (offered m e p) 0 && ltb 0 (hops p e) ≡ true → leads m e p e ≡ false
+  no_path h =
+      let (z, l) = simp (T-and, T-eq, T-lt) at ((holds_true (eqb (offered m e p) 0 && ltb 0 (hops p e))).1 h) in
+      bool_ext (leads m e p e) false (λ t. offered_none m e p i (λ f. omega (arith, (hops_zero p e).1 f)) z t) (λ t. absurd t)
 
-  -- ---- the verdict
-
-  pub verdict_refused : (r : Refusal) → check_ends S cells s e ≡ Refused r → NotGranted r ≡ verdict_answer S cells s e
-  unfolding verdict_answer verdict_check
-  verdict_refused r h = rw h
-
-  pub verdict_10 : check_ends S cells s e ≡ Done → leads (map_of S cells) (place_of S e) (place_of S s) (place_of S e) ≡ false
-      → NotGranted NoPath ≡ verdict_answer S cells s e
-  unfolding verdict_answer verdict_check
-  verdict_10 h l = rw (h, l)
-
-  pub verdict_0 : check_ends S cells s e ≡ Done → leads (map_of S cells) (place_of S e) (place_of S s) (place_of S e) ≡ true
-      → Granted (hops (place_of S s) (place_of S e)) (offered (map_of S cells) (place_of S e) (place_of S s)) ≡ verdict_answer S cells s e
-  unfolding verdict_answer verdict_check
-  verdict_0 h l = rw (h, l)
+  pub a_path : eqb (offered m e p) 0 && ltb 0 (hops p e) ≡ false → leads m e p e ≡ true
+  a_path h = split (eqb (offered m e p) 0) refl h
+    where
+      split : (b : Bool) → eqb (offered m e p) 0 ≡ b → b && ltb 0 (hops p e) ≡ false → leads m e p e ≡ true
+      split true z f =
+          let l = ltb-false 0 (hops p e) f in
+          let here : hops p e ≡ 0 = omega arith in
+          subst (λ (q : Place). leads m e p q ≡ true) ((hops_zero p e).0 here) ((holds_true (leads m e p p)).0 (start_reached m e p i))
+      split false z f =
+          let n = eqb-false (offered m e p) 0 z in
+          (holds_true (leads m e p e)).0 (offered_leads m e p i (lt_of_not-le (λ h. n (omega arith))))

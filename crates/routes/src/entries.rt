@@ -1,77 +1,90 @@
 // The public calls on routes. Each takes every input.
 ghost use Rattle.std.specs.Prelude.{◌≡◌, length};
+ghost use Rattle.mesh.specs.Mesh.{place_of};
+ghost use Rattle.mesh.specs.Answers.{answered};
 ghost use Rattle.paths.specs.Entries.{check_ends, verdict_answer, route_answer, route_out, reached_answer, reached_out};
 
 use maps::{check_map, may_end};
-use mesh::{Answer, Numbered, Refusal, Sizes};
-use paths::Verdict;
+use mesh::{Place, Refusal, Sizes};
+use paths::Grant;
 use sweeps::offers::offered;
 use sweeps::signed::hops;
 use trails::follow::write_route;
 use trails::spread::{total, write_reached};
 
 // Refusals 1, 2, 4, 5 and 9.
-fn check_ends(s: Sizes, cells: &[u8], start: usize, end: usize) -> Answer
+#[tactic(auto, using(mesh::proofs::Answers::map_granted), unfolding(paths::specs::Entries::check_ends))]
+fn check_ends(s: Sizes, cells: &[u8], start: usize, end: usize) -> Result<(), Refusal>
     ensures { result ≡ check_ends s cells.now start end }
 {
-    let a = check_map(s, cells);
-    let Answer::Done = a else {
-        return a;
-    };
+    check_map(s, cells)?;
     let n = s.nodes();
     if start >= n || end >= n {
-        return Answer::Refused(Refusal::BadNumber);
+        return Err(Refusal::BadNumber);
     }
     if !may_end(cells[start]) || !may_end(cells[end]) {
-        return Answer::Refused(Refusal::FaultyEnd);
+        return Err(Refusal::FaultyEnd);
     }
-    Answer::Done
+    Ok(())
+}
+
+// The places of both: the same refusals.
+#[tactic(auto, using(crate::proofs::Ends::ends_granted))]
+fn ends(s: Sizes, cells: &[u8], start: usize, end: usize) -> Result<(Place, Place), Refusal>
+    ensures { result ≡ answered (check_ends s cells.now start end) (place_of s start, place_of s end) }
+{
+    check_ends(s, cells, start, end)?;
+    Ok((s.place(start), s.place(end)))
 }
 
 // The hops and the offered set at the start: refusals 1, 2, 4, 5, 9 and 10.
-pub fn verdict(s: Sizes, cells: &[u8], start: usize, end: usize) -> Verdict
+#[tactic(auto, using(crate::proofs::Ends::ends_granted, crate::proofs::Ends::no_path, crate::proofs::Ends::a_path, rows::proofs::Box::in_largest), unfolding(paths::specs::Entries::verdict_answer, paths::specs::Entries::verdict_check))]
+pub fn verdict(s: Sizes, cells: &[u8], start: usize, end: usize) -> Result<Grant, Refusal>
     ensures { result ≡ verdict_answer s cells.now start end }
 {
-    let a = check_ends(s, cells, start, end);
-    if let Answer::Refused(r) = a {
-        return Verdict::NotGranted(r);
+    let (p, e) = ends(s, cells, start, end)?;
+    let hops = hops(p, e);
+    let offered = offered(s, cells, p, e);
+    if (offered == 0) & (hops > 0) {
+        return Err(Refusal::NoPath);
     }
-    let p = s.place(start);
-    let e = s.place(end);
-    let h = hops(p, e);
-    let o = offered(s, cells, p, e);
-    if (o == 0) & (h > 0) {
-        return Verdict::NotGranted(Refusal::NoPath);
-    }
-    Verdict::Granted(h, o)
+    Ok(Grant { hops, offered })
 }
 
 // The nodes of the route at the front of out, and how many they are: refusals 1, 2, 4, 5, 9, 10 and 3.
-pub fn route(s: Sizes, cells: &[u8], start: usize, end: usize, out: &mut [u16]) -> Numbered
+#[tactic(auto, using(crate::proofs::Ends::ends_granted), unfolding(paths::specs::Entries::route_answer, paths::specs::Entries::route_check, paths::specs::Entries::verdict_check, paths::specs::Entries::route_written))]
+pub fn route(
+    s: Sizes,
+    cells: &[u8],
+    start: usize,
+    end: usize,
+    out: &mut [u16],
+) -> Result<usize, Refusal>
     ensures value { result ≡ route_answer s cells.now start end (length out.old) }
     ensures out_after { out.new ≡ route_out s cells.now start end out.old }
 {
-    let a = check_ends(s, cells, start, end);
-    if let Answer::Refused(r) = a {
-        return Numbered::NotNumbered(r);
-    }
-    write_route(s, cells, s.place(start), s.place(end), out)
+    let (start, end) = ends(s, cells, start, end)?;
+    write_route(s, cells, start, end, out)
 }
 
 // One byte for each node at the front of out, 1 where preferred steps towards the end lead from the start to it, and how many they are:
 // refusals 1, 2, 4, 5, 9 and 3.
-pub fn reached(s: Sizes, cells: &[u8], start: usize, end: usize, out: &mut [u8]) -> Numbered
+#[tactic(auto, using(crate::proofs::Ends::ends_granted, trails::proofs::Spreading::front_bits, trails::proofs::Spreading::reached_0), unfolding(paths::specs::Entries::reached_answer, paths::specs::Entries::reached_check, paths::specs::Entries::reached_written))]
+pub fn reached(
+    s: Sizes,
+    cells: &[u8],
+    start: usize,
+    end: usize,
+    out: &mut [u8],
+) -> Result<usize, Refusal>
     ensures value { result ≡ reached_answer s cells.now start end (length out.old) }
     ensures out_after { out.new ≡ reached_out s cells.now start end out.old }
 {
-    let a = check_ends(s, cells, start, end);
-    if let Answer::Refused(r) = a {
-        return Numbered::NotNumbered(r);
-    }
+    let (start, end) = ends(s, cells, start, end)?;
     let n = s.nodes();
     if out.len() < n {
-        return Numbered::NotNumbered(Refusal::NoRoom);
+        return Err(Refusal::NoRoom);
     }
-    write_reached(s, cells, s.place(start), s.place(end), out);
-    Numbered::Number(total(out, n))
+    write_reached(s, cells, start, end, out);
+    Ok(total(out, n))
 }

@@ -2,9 +2,10 @@
 use mathlib.Core.Path.{◌≡◌, refl, sym, ap, ◌∙◌}
 use mathlib.Core.Bool.{Bool, ◌&&◌, ◌||◌}
 use Prim.Native.Nat.{ℕ, zero, suc, ◌+◌, ◌*◌, ◌/◌, ◌%◌, ◌^◌, ◌<◌, min, max}
+use native.Mathlib.Nat.{zero-add}
 use native.Mathlib.Omega.{arith}
 use lib.Arith.{digits_div, digits_mod}
-use lib.Bits.{bit_and, bit_or, bit_xor, and_step, or_step, xor_step, differ}
+use lib.Bits.{bit_and, bit_or, bit_xor, and_step, or_step, xor_step, differ, block_half, block_odd}
 use lib.Pow.{shr-shr}
 use Rattle.mesh.specs.Tools.{bit, one}
 use Rattle.mesh.proofs.Bits.{bit_of}
@@ -58,6 +59,24 @@ xor_low = op_low bit_xor differ xor_step differ_lt
 -- a shift by one more
 pub half_first : (n k : ℕ) → n / 2 ^ suc k ≡ n / 2 / 2 ^ k
 half_first n k = sym (shr-shr n 1 k ∙ ap (λ i. n / 2 ^ i) (omega arith))
+
+-- the bits below a digit, and those from one on
+at_below : (m i n j : ℕ) → j < i → bit_at (m * 2 ^ i + n) j ≡ bit_at n j
+unfolding bit_at
+at_below m zero n j l = absurd (omega arith)
+at_below m (suc i) n zero l = rw (block_odd m i n)
+at_below m (suc i) n (suc j) l = rw (block_half m i n) (at_below m i (n / 2) j (omega arith))
+
+pub at_after : (n i k : ℕ) → bit_at n (i + k) ≡ bit_at (n / 2 ^ i) k
+unfolding bit_at
+at_after n zero k = let e : n / 2 ^ 0 ≡ n = omega arith in rw (zero-add k, e)
+at_after n (suc i) k = let e : suc i + k ≡ suc (i + k) = omega arith in rw (e, half_first n i) (at_after (n / 2) i k)
+
+-- those of the lowest byte
+pub at_byte : (n j : ℕ) → j < 8 → bit_at (n % 256) j ≡ bit_at n j
+at_byte n j l =
+    let e : n / 256 * 2 ^ 8 + n % 256 ≡ n = omega arith in
+    sym (at_below (n / 256) 8 (n % 256) j l) ∙ ap (λ m. bit_at m j) e
 
 -- a bit, as it is read
 pub read_at : (n k : ℕ) → n / 2 ^ k % 2 ≡ bit (bit_at n k)

@@ -89,21 +89,14 @@ module _ (pass from link : ℕ) where
       next 0 ∙ rw e (alone (bit_at pass 0) (bit_at from 0) (bit_at link 0))
   sweeps (suc k) = next (suc k) ∙ rw (sweeps k)
 
--- What is added fits into 32 bits, and half of the carries into the bits of what may be passed.
-module _ (pass f : ℕ) (h : pass < 65536) where
-  pub seeds_fit : bit_and pass f < 4294967296
-  seeds_fit = omega (arith, and_le_l pass f)
-
-  module _ (l : ℕ) where
-    pub total_fits : bit_and pass f + bit_and pass l < 4294967296
-    total_fits = omega (arith, and_le_l pass f, and_le_l pass l)
-
-    pub carries_fit : bit_xor (bit_xor (bit_and pass f + bit_and pass l) (bit_and pass f)) (bit_and pass l) / 2 < 65536
-    carries_fit =
-        let a : bit_and pass f < 131072 = omega (arith, and_le_l pass f) in
-        let p : bit_and pass l < 131072 = omega (arith, and_le_l pass l) in
-        let t : bit_and pass f + bit_and pass l < 131072 = omega (arith, and_le_l pass f, and_le_l pass l) in
-        omega (arith, xor_lt 17 _ _ (xor_lt 17 _ _ t a) p)
+-- Half of the carries fits into the bits of what may be passed.
+module _ (pass f : ℕ) (h : pass < 65536) (l : ℕ) where
+  pub carries_fit : bit_xor (bit_xor (bit_and pass f + bit_and pass l) (bit_and pass f)) (bit_and pass l) / 2 < 65536
+  carries_fit =
+      let a : bit_and pass f < 131072 = omega (arith, and_le_l pass f) in
+      let p : bit_and pass l < 131072 = omega (arith, and_le_l pass l) in
+      let t : bit_and pass f + bit_and pass l < 131072 = omega (arith, and_le_l pass f, and_le_l pass l) in
+      omega (arith, xor_lt 17 _ _ (xor_lt 17 _ _ t a) p)
 
 -- no bit is set where none may be passed
 pub swept_fails : (p f l : ℕ → Bool) (k : ℕ) → p k ≡ false → swept p f l k ≡ false

@@ -3,8 +3,8 @@ use mathlib.Core.Path.{◌≡◌, refl, ap, ◌∙◌}
 use mathlib.Core.Bool.{Bool, true, false, ◌&&◌, not}
 use Prim.Native.Nat.{ℕ, zero, suc, ◌+◌, ◌-◌, ◌*◌, ◌/◌, ◌%◌, ◌^◌, ◌<◌, ◌≤◌}
 use native.Mathlib.Omega.{arith}
-use native.Mathlib.Nat.{mul_assoc, pow-suc, one-mul, add-zero}
-use lib.Pow.{split, low, shl_exact, pow_mono}
+use native.Mathlib.Nat.{mul_assoc, pow-suc, add-zero}
+use lib.Pow.{split, low, pow_mono}
 use lib.Dec.{ltb, leb-suc-suc}
 use borrow.Author.Tests.{lt-ltb, le-ltb}
 use Rattle.mesh.specs.Tools.{bit}
@@ -91,10 +91,6 @@ packed_not f (suc n) = omega (arith, packed_not (λ k. f (suc k)) n, bit_not (f 
     bit_not : (b : Bool) → bit b + bit (not b) ≡ 1
     bit_not true = refl
     bit_not false = refl
-
--- a bit shifted
-pub power : (w : ℕ) → w ≤ 16 → (1 * 2 ^ w) % 2 ^ 32 ≡ 2 ^ w
-power w h = shl_exact 1 w 32 (omega arith) (omega arith) ∙ one-mul (2 ^ w)
 
 -- w of sixteen nodes, after the first s
 pub some_of : (f g : ℕ → Bool) (x s w : ℕ) → x ≡ packed f 16 → ((k : ℕ) → k < w → f (s + k) ≡ g k) → s + w ≤ 16 → x / 2 ^ s % 2 ^ w ≡ packed g w

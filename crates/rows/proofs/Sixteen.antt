@@ -1,59 +1,16 @@
--- Eight bytes in a word, and the bits of each. One bit of each byte is taken by a mask; three sums without a carry bring those of two words together,
--- and a second mask takes away what the first sum puts between the pairs. Assumes nothing.
+-- The bits of each byte of a word. One bit of each byte is taken by a mask; three sums without a carry bring those of two words together, and a second
+-- mask takes away what the first sum puts between the pairs. Assumes nothing.
 use mathlib.Core.Path.{◌≡◌, sym, ap, ◌∙◌}
 use mathlib.Core.Bool.{Bool}
-use mathlib.Core.List.{List, [], ◌∷◌}
 use Prim.Native.Nat.{ℕ, zero, suc, ◌+◌, ◌*◌, ◌/◌, ◌%◌, ◌^◌, ◌<◌, ◌≤◌}
-use native.Mathlib.Nat.{zero-add}
 use native.Mathlib.Omega.{arith}
-use lib.Arith.{digits_div, digits_mod}
-use lib.Bits.{bit_and, and_block, and_mask, and_zero_r, block_half, block_odd}
-use lib.ListN.{get_or}
+use lib.Arith.{digits_mod}
+use lib.Bits.{bit_and, and_block, and_mask, and_zero_r}
 use lib.Pow.{split, shr-shr}
-use Rattle.mesh.specs.Tools.{bit, table}
-use Rattle.mesh.proofs.Tables.{get_d_table}
+use Rattle.mesh.specs.Tools.{bit}
 use Rattle.rows.specs.Row.{bit_at, packed}
-use Rattle.rows.proofs.Bits.{half_first, read_at}
-use Rattle.rows.proofs.Packs.{at_none, packed_lt}
-
--- ---- bytes
-
--- the bits below a digit, and those from one on
-at_below : (m i n j : ℕ) → j < i → bit_at (m * 2 ^ i + n) j ≡ bit_at n j
-unfolding bit_at
-at_below m zero n j l = absurd (omega arith)
-at_below m (suc i) n zero l = rw (block_odd m i n)
-at_below m (suc i) n (suc j) l = rw (block_half m i n) (at_below m i (n / 2) j (omega arith))
-
-at_after : (n i k : ℕ) → bit_at n (i + k) ≡ bit_at (n / 2 ^ i) k
-unfolding bit_at
-at_after n zero k = let e : n / 2 ^ 0 ≡ n = omega arith in rw (zero-add k, e)
-at_after n (suc i) k = let e : suc i + k ≡ suc (i + k) = omega arith in rw (e, half_first n i) (at_after (n / 2) i k)
-
--- the bytes of x, the lowest first; with one more; one alone
-pub record Bytes (x : ℕ) (s : List ℕ) : Type 0 where
-  pub at : (k j : ℕ) → j < 8 → bit_at x (8 * k + j) ≡ bit_at (get_or s k 0) j
-
-pub bytes_more : {s : List ℕ} {x : ℕ} (n : ℕ) → n < 256 → Bytes x s → Bytes (x * 256 + n) (n ∷ s)
-bytes_more {s = s} {x = x} n h b = record { at = go }
-  where
-    go : (k j : ℕ) → j < 8 → bit_at (x * 256 + n) (8 * k + j) ≡ bit_at (get_or (n ∷ s) k 0) j
-    go zero j l = rw (zero-add j) (at_below x 8 n j l)
-    go (suc k) j l =
-        let e : 8 * suc k + j ≡ 8 + (8 * k + j) = omega arith in
-        rw (e, at_after (x * 256 + n) 8 (8 * k + j), digits_div x h) (b.at k j l)
-
-pub bytes_one : (n : ℕ) → n < 256 → Bytes n (n ∷ [])
-bytes_one n h =
-    let e : 0 * 256 + n ≡ n = omega arith in
-    rw e at (bytes_more {s = []} {x = 0} n h (record { at = λ k j l. rw (at_none (8 * k + j), at_none j) }))
-
--- eight of them
-pub eight_are : (f : ℕ → ℕ) (v : ℕ) → v ≡ f 0 → (k : ℕ) → k < 8 → get_or (v ∷ f 1 ∷ f 2 ∷ f 3 ∷ f 4 ∷ f 5 ∷ f 6 ∷ f 7 ∷ []) k 0 ≡ f k
-unfolding table
-eight_are f v e k h = rw e (get_d_table f 8 k 0 h)
-
--- ---- pairs
+use Rattle.rows.proofs.Bits.{read_at}
+use Rattle.rows.proofs.Packs.{packed_lt}
 
 -- n times: the masks of two bytes; two bits, sixteen from the next two
 ones : ℕ → ℕ
@@ -108,14 +65,12 @@ paired f z (suc n) h =
 abbrev pub four : (ℕ → Bool) → ℕ
 four f = packed f 2 + 65536 * (packed (λ k. f (2 + k)) 2 + 65536 * (packed (λ k. f (4 + k)) 2 + 65536 * packed (λ k. f (6 + k)) 2))
 
-pub pairs_of : (x j : ℕ) → let m = bit_and (x / 2 ^ j) 72340172838076673 in bit_and (m + m / 128) 844437815230467 ≡ four (λ k. bit_at x (8 * k + j))
+pub pairs_of : (x j : ℕ) → let m = bit_and (x / 2 ^ j) 0x0101_0101_0101_0101 in bit_and (m + m / 128) 0x0003_0003_0003_0003 ≡ four (λ k. bit_at x (8 * k + j))
 unfolding ones threes twos packed
 pairs_of x j = paired (λ k. bit_at x (8 * k + j)) (x / 2 ^ j) 4 (λ k. rw (shr-shr x j (8 * k), o k) (read_at x (8 * k + j))) ∙ omega arith
   where
     o : (k : ℕ) → j + 8 * k ≡ 8 * k + j
     o k = omega arith
-
--- ---- both words
 
 -- four numbers that are sixteen bits apart, each of two bits and two more eight above
 joined : (a b c d : ℕ) → a ≤ 771 → b ≤ 771 → c ≤ 771 → d ≤ 771 → let m = a + 65536 * (b + 65536 * (c + 65536 * d)) in let n = m + m / 16384 in

@@ -8,13 +8,13 @@ use native.Mathlib.Omega.{arith}
 use borrow.Author.Tests.{ltb-true, ltb-false}
 use lib.ListN.{length, get_or, set}
 use lib.Dec.{ltb}
-use lib.Pow.{shr-shr, field, mod-mod-pow}
+use lib.Pow.{shr-shr}
 use Rattle.mesh.specs.Tools.{bit}
 use Rattle.mesh.specs.Fill.{Filled}
 use Rattle.mesh.proofs.Fill.{fill_more}
 use Rattle.rows.specs.Row.{bit_at, onwards, Span}
 use Rattle.rows.specs.Bytes.{joined, turned, Takes, Added}
-use Rattle.rows.proofs.Bits.{read_at}
+use Rattle.rows.proofs.Bits.{read_at, at_byte}
 use Rattle.rows.proofs.Words.{joined_lt, joined_add, byte_of}
 
 -- v is added or not
@@ -32,27 +32,14 @@ apart l true from w s i k h g e = omega (arith, s.low refl)
 apart l false from w s i k h g e = omega arith
 
 -- One by one: the byte of the next node, at q, is as it was, and takes what it gets.
-module _ (old new : List ℕ) (down : Bool) (from w bits v : ℕ) (s : Span old down from w) (k rest q : ℕ) (h : k < w)
-    (A : (k ≤ w) × (rest ≡ bits / 2 ^ k) × Added old new down from k bits v) (is : q ≡ onwards down from k) where
-  same : get_or new q 0 ≡ get_or old (onwards down from k) 0
-  same = rw is (A.2.kept (onwards down from k) (λ i l e. apart old down from w s i k l h (sym e)))
-
-  last : rest % 2 ≡ bit (bit_at bits k)
-  last = ap (λ n. n % 2) A.1 ∙ read_at bits k
-
-  pub few_in : q < length new
-  few_in = rw (is, A.2.size) (inside old down from w s k h)
-
-  pub few_fits : Takes old down from w v → get_or new q 0 + v * (rest % 2) ≤ 255
-  few_fits r = rw (same, last) (omega (arith, r k h, part_le v (bit_at bits k)))
-
-  pub few_more : (k + 1 ≤ w) × (rest / 2 ≡ bits / 2 ^ (k + 1)) × Added old (set new q (get_or new q 0 + v * (rest % 2))) down from (k + 1) bits v
-  few_more = (
-    omega arith,
-    ap (λ n. n / 2) A.1 ∙ shr-shr bits k 1,
-    fill_more (λ i. onwards down from i) (λ i. get_or old (onwards down from i) 0 + v * bit (bit_at bits i)) old new k q _ A.2
-        few_in (λ i l e. apart old down from w s i k l h (e ∙ is)) is (rw (same, last)),
-  )
+pub few_more : (old new : List ℕ) (down : Bool) (from w bits v : ℕ) → Span old down from w → (k q : ℕ) → k < w → Added old new down from k bits v → q ≡ onwards down from k
+    → Added old (set new q (get_or new q 0 + v * (bits / 2 ^ k % 2))) down from (k + 1) bits v
+few_more old new down from w bits v s k q h A is =
+    let same : get_or new q 0 ≡ get_or old (onwards down from k) 0
+    = rw is (A.kept (onwards down from k) (λ i l e. apart old down from w s i k l h (sym e))) in
+    let room : q < length new = rw (is, A.size) (inside old down from w s k h) in
+    fill_more (λ i. onwards down from i) (λ i. get_or old (onwards down from i) 0 + v * bit (bit_at bits i)) old new k q _ A
+    room (λ i l e. apart old down from w s i k l h (e ∙ is)) is (rw (same, read_at bits k))
 
 -- Eight nodes in the order of their numbers, from the one at p.
 turned_lt : (down : Bool) (k : ℕ) → k < 8 → turned down k < 8
@@ -105,9 +92,7 @@ module _ (old : List ℕ) where
 
 -- the low eight bits of a row; those from bit j on
 low_bit : (n k : ℕ) → k < 8 → bit (bit_at (n % 256) k) ≡ bit (bit_at n k)
-low_bit n k h =
-    let e : 8 ≡ (7 - k) + 1 + k = omega arith in
-    sym (read_at (n % 256) k) ∙ ap (λ i. n % 2 ^ i / 2 ^ k % 2) e ∙ ap (λ i. i % 2) (field n ((7 - k) + 1) k) ∙ mod-mod-pow (n / 2 ^ k) (7 - k) 1 ∙ read_at n k
+low_bit n k h = ap bit (at_byte n k h)
 
 bit_on : (n j k : ℕ) → k < 8 → bit (bit_at (n / 2 ^ j % 256) k) ≡ bit (bit_at n (j + k))
 bit_on n j k h = low_bit (n / 2 ^ j) k h ∙ sym (read_at (n / 2 ^ j) k) ∙ ap (λ i. i % 2) (shr-shr n j k) ∙ read_at n (j + k)

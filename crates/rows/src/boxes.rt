@@ -3,7 +3,7 @@ ghost use Rattle.std.specs.Prelude.{◌≡◌, ◌≤◌, ◌<◌};
 ghost use Rattle.mesh.specs.Mesh.{InRange, place, nodes, number};
 ghost use Rattle.rows.specs.Box.{gone, reach, far, row_run, OnAxis, Held, Within};
 
-use crate::{Between, Run};
+use crate::{Between, Run, onwards};
 use mesh::{Place, Sizes};
 
 impl Run {
@@ -12,10 +12,7 @@ impl Run {
         requires { OnAxis self 4096 × (i ≤ self.steps) }
         ensures { result ≡ gone self i }
     {
-        if self.down {
-            return self.from - i;
-        }
-        self.from + i
+        onwards(self.from, i, self.down)
     }
 }
 
@@ -36,11 +33,9 @@ impl Between {
         requires { InRange s × Held s self × Within self (place 0 b c) }
         ensures { result ≡ row_run s self b c }
     {
-        let x = self.x;
         Run {
             from: self.node(s, 0, b, c),
-            steps: x.steps,
-            down: x.down,
+            ..self.x
         }
     }
 
@@ -49,13 +44,10 @@ impl Between {
         requires { InRange s × Held s self × Within self (place a b c) }
         ensures { (result ≡ number s (reach self (place a b c))) × (result < nodes s) }
     {
-        let x = self.x;
-        let y = self.y;
-        let z = self.z;
         s.number(Place {
-            x: x.at(a),
-            y: y.at(b),
-            z: z.at(c),
+            x: self.x.at(a),
+            y: self.y.at(b),
+            z: self.z.at(c),
         })
     }
 }

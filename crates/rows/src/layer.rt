@@ -14,8 +14,7 @@ fn faulty_row(s: Sizes, cells: &[u8], g: Between, b: usize, c: usize) -> u16
     requires { Ready s cells.now g × Good s cells.now × (b ≤ g.y.steps) × (c ≤ g.z.steps) }
     ensures { result ≡ faulty_row (map_of s cells.now) g b c }
 {
-    let x = g.x;
-    pack_row(cells, 0, g.node(s, 0, b, c), x.steps + 1, x.down)
+    pack_row(cells, 0, g.node(s, 0, b, c), g.x.steps + 1, g.x.down)
 }
 
 // The faulty nodes of layer c, row by row.
@@ -24,10 +23,8 @@ pub fn faulty_layer(s: Sizes, cells: &[u8], g: Between, c: usize, rows: &mut [u1
     ensures { Filled (λ b. b) (λ b. faulty_row (map_of s cells.now) g b c) rows.old rows.new (g.y.steps + 1) }
 {
     let n = g.y.steps + 1;
-    let mut b = 0;
-    while b < n {
-        rows[b] = faulty_row(s, cells, g, b, c);
-        b += 1;
+    for (b, row) in rows[..n].iter_mut().enumerate() {
+        *row = faulty_row(s, cells, g, b, c);
     }
 }
 
@@ -37,12 +34,9 @@ pub fn add_layer(s: Sizes, g: Between, c: usize, rows: &[u16], v: u8, out: &mut 
         × ((a b : ℕ) → a ≤ g.x.steps → b ≤ g.y.steps → get_or out.old (spot s g a b c) 0 + v ≤ 255) }
     ensures { AddedRows s g c v rows.now out.old out.new (g.y.steps + 1) }
 {
-    let x = g.x;
-    let w = x.steps + 1;
+    let w = g.x.steps + 1;
     let n = g.y.steps + 1;
-    let mut b = 0;
-    while b < n {
-        add_row(rows[b], v, out, g.node(s, 0, b, c), w, x.down);
-        b += 1;
+    for (b, bits) in rows[..n].iter().enumerate() {
+        add_row(*bits, v, out, g.node(s, 0, b, c), w, g.x.down);
     }
 }

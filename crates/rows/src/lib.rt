@@ -2,15 +2,17 @@
 #![tactic(auto)]
 
 pub mod boxes;
+mod bytes;
 pub mod layer;
 pub mod pack;
 pub mod unpack;
 
-ghost use Rattle.std.specs.Prelude.{◌≡◌, ℕ, ◌+◌, ◌^◌, ◌≤◌};
-ghost use Rattle.rows.specs.Row.{bit_at, swept};
+ghost use Rattle.std.specs.Prelude.{◌≡◌, true, false, ℕ, ◌+◌, ◌^◌, ◌≤◌, ◌<◌};
+ghost use Rattle.rows.specs.Row.{bit_at, swept, onwards};
+ghost use Rattle.rows.specs.Bytes.{turned};
 
 // One axis of a box of nodes, or a row of their numbers: so many steps on from the first, down or up.
-#[derive(Clone, Copy)]
+#[derive(Clone, Copy, Debug, PartialEq, Eq, Hash)]
 pub struct Run {
     pub from: usize,
     pub steps: usize,
@@ -18,7 +20,7 @@ pub struct Run {
 }
 
 // The nodes between two places, from the first towards the second.
-#[derive(Clone, Copy)]
+#[derive(Clone, Copy, Debug, PartialEq, Eq, Hash)]
 pub struct Between {
     pub x: Run,
     pub y: Run,
@@ -41,4 +43,20 @@ pub fn full(w: usize) -> u16
     ensures { result + 1 ≡ 2 ^ w }
 {
     ((1u32 << w) - 1) as u16
+}
+
+// The node k steps on.
+pub(crate) fn onwards(from: usize, k: usize, down: bool) -> usize
+    requires { (down ≡ true → k ≤ from) × (down ≡ false → from + k < 2 ^ 64) }
+    ensures { result ≡ onwards down from k }
+{
+    if down { from - k } else { from + k }
+}
+
+// Of eight nodes, from the one k steps on, the first in the order of their numbers.
+pub(crate) fn lowest(from: usize, k: usize, down: bool) -> usize
+    requires { (down ≡ true → k + 7 ≤ from) × (down ≡ false → from + k < 2 ^ 64) }
+    ensures { result ≡ onwards down from (k + turned down 0) }
+{
+    if down { from - (k + 7) } else { from + k }
 }

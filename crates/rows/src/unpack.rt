@@ -5,70 +5,25 @@ ghost use Rattle.mesh.specs.Fill.{Filled};
 ghost use Rattle.rows.specs.Row.{bit_at, onwards, Span};
 ghost use Rattle.rows.specs.Bytes.{joined, turned, Takes, Added};
 
-// Bit 0 of each of eight bytes.
-const ONES: u64 = 72340172838076673;
+use crate::bytes::{ONES, put, word};
+use crate::{lowest, onwards};
 
 // Bits 0 to 6 of each of eight bytes.
-const REST: u64 = 9187201950435737471;
+const REST: u64 = 0x7f7f_7f7f_7f7f_7f7f;
 
 // Bit k of byte k, for each of eight bytes.
-const UP: u64 = 9241421688590303745;
+const UP: u64 = 0x8040_2010_0804_0201;
 
 // Bit 7 - k of byte k.
-const DOWN: u64 = 72624976668147840;
+const DOWN: u64 = 0x0102_0408_1020_4080;
 
 // Eight bits, one to a byte. All of them stand in each byte of the product; the mask keeps one, and the sum takes that to bit 7.
 fn spread(bits: u64, down: bool) -> u64
     requires { bits < 256 }
     ensures { result ≡ joined (λ k. bit (bit_at bits (turned down k))) 8 }
 {
-    if down {
-        return (((bits * ONES) & DOWN) + REST) / 128 & ONES;
-    }
-    (((bits * ONES) & UP) + REST) / 128 & ONES
-}
-
-// Eight bytes as one word, and such a word as eight bytes.
-fn word(out: &[u8], p: usize) -> u64
-    requires { p + 8 ≤ length out.now }
-    ensures { result ≡ joined (λ k. get_or out.now (p + k) 0) 8 }
-{
-    let mut x: u64 = 0;
-    for k in 0..8 {
-        x = out[p + (7 - k)] as u64 + 256 * x;
-    }
-    x
-}
-
-fn put(x: u64, out: &mut [u8], p: usize)
-    requires { p + 8 ≤ length out.old }
-    ensures { Filled (λ k. p + k) (λ k. x / 2 ^ (8 * k) % 256) out.old out.new 8 }
-{
-    for k in 0..8 {
-        out[p + k] = ((x >> (8 * k)) % 256) as u8;
-    }
-}
-
-// The node k steps on.
-fn at(from: usize, k: usize, down: bool) -> usize
-    requires { (down ≡ true → k ≤ from) × (down ≡ false → from + k < 2 ^ 64) }
-    ensures { result ≡ onwards down from k }
-{
-    if down {
-        return from - k;
-    }
-    from + k
-}
-
-// Of eight nodes, from the one k steps on, the first in the order of their numbers.
-fn lowest(from: usize, k: usize, down: bool) -> usize
-    requires { (down ≡ true → k + 7 ≤ from) × (down ≡ false → from + k < 2 ^ 64) }
-    ensures { result ≡ onwards down from (k + turned down 0) }
-{
-    if down {
-        return from - (k + 7);
-    }
-    from + k
+    let mask = if down { DOWN } else { UP };
+    (((bits * ONES) & mask) + REST) / 128 & ONES
 }
 
 // The bytes of eight nodes as one word, v added where the bit is 1.
@@ -81,14 +36,11 @@ fn eight(bits: u16, v: u8, out: &[u8], p: usize, down: bool) -> u64
 
 // w nodes, one by one.
 fn few(bits: u16, v: u8, out: &mut [u8], from: usize, w: usize, down: bool)
-    requires { Span out.old down from w × Takes out.old down from w v }
+    requires { (w ≤ 16) × Span out.old down from w × Takes out.old down from w v }
     ensures { Added out.old out.new down from w bits v }
 {
-    let mut rest = bits;
     for k in 0..w {
-        let i = at(from, k, down);
-        out[i] = out[i] + v * (rest % 2) as u8;
-        rest = rest / 2;
+        out[onwards(from, k, down)] += v * ((bits >> k) % 2) as u8;
     }
 }
 

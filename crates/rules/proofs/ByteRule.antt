@@ -6,8 +6,7 @@ use lib.Dec.{T}
 use Rattle.mesh.specs.Mesh.{Axis, Inside}
 use Rattle.mesh.specs.Steps.{next, runs_down, ahead}
 use Rattle.mesh.specs.Cells.{Map, faulty, works, wall}
-use Rattle.rules.specs.Marks.{counted, rule, blocks_by, blocks, marked, Kind, heading, holds, byte_of, has, is_word, mark_at}
-use Rattle.rules.specs.Marks.{byte_blocks, rule_byte, Heard, read_at}
+use Rattle.rules.specs.Marks.{counted, rule, blocks_by, blocks, marked, Kind, heading, holds, byte_of, has, is_word, mark_at, byte_blocks, rule_byte, Heard, read_at}
 use Rattle.mesh.proofs.Tests.{T-no, holds_true, cond_true, cond_false}
 use Rattle.mesh.proofs.Steps.{dir_lt, next_in}
 use Rattle.rules.proofs.Rule.{rule_same, wall_faulty, flat_heading}
@@ -16,8 +15,7 @@ use Rattle.rules.proofs.Marks.{works_is}
 use Rattle.rules.proofs.Bytes.{has_byte, byte_word, word_byte, one_blocks, eight_open, word_blocks, mark_works}
 use Rattle.mesh.specs.declared.Sizes.{Sizes}
 use Rattle.mesh.specs.declared.Place.{Place}
-use Rattle.mesh.specs.declared.Next.{Next}
-use Rattle.mesh.specs.declared.Next.TheVariants.{At, Edge}
+use Rattle.std.specs.Prelude.{Some, None, Option}
 
 module _ (S : Sizes) where
   -- what the byte rule gives is a word
@@ -45,7 +43,7 @@ module _ (S : Sizes) where
 module _ (m : Map) (p : Place) (heard : ℕ → ℕ) (g : Heard m p heard) where
   -- what p heard from a neighbour that does not block by itself says what `mark` says of it
   abbrev Says : (ℕ → Kind → Place → Bool) → Type 0
-  Says mark = (j : ℕ) (q : Place) → next m.sizes p j ≡ At q → T (not (wall m p j q)) → (k : Kind) → has (heard j) k ≡ mark j k q
+  Says mark = (j : ℕ) (q : Place) → next m.sizes p j ≡ Some q → T (not (wall m p j q)) → (k : Kind) → has (heard j) k ≡ mark j k q
 
   heard_blocks : (mark : ℕ → Kind → Place → Bool) → Says mark → (k : Kind) (j : ℕ) → j < 6 → byte_blocks (heard j) k ≡ blocks m (mark j k) p j
   heard_blocks mark f k j l = go (next m.sizes p j) refl
@@ -54,9 +52,9 @@ module _ (m : Map) (p : Place) (heard : ℕ → ℕ) (g : Heard m p heard) where
       at q true d w = rw (d tt) (one_blocks k)
       at q false d w = w tt
 
-      go : (n : Next) → next m.sizes p j ≡ n → byte_blocks (heard j) k ≡ blocks_by m (mark j k) p j n
-      go (At q) e = at q (wall m p j q) (g.dead j q e) (λ n. word_blocks (heard j) (g.word j q e n) k ∙ f j q e n k)
-      go Edge e = rw (g.edge j l e) (eight_open k)
+      go : (n : Option Place) → next m.sizes p j ≡ n → byte_blocks (heard j) k ≡ blocks_by m (mark j k) p j n
+      go (Some q) e = at q (wall m p j q) (g.dead j q e) (λ n. word_blocks (heard j) (g.word j q e n) k ∙ f j q e n k)
+      go None e = rw (g.edge j l e) (eight_open k)
 
   says_rule : (o : ℕ) (mark : ℕ → Kind → Place → Bool) → Says mark
       → rule_byte m.sizes o heard ≡ byte_of λ k. rule m.sizes (heading o k) λ j. blocks m (mark j k) p j
@@ -66,7 +64,7 @@ module _ (m : Map) (p : Place) (heard : ℕ → ℕ) (g : Heard m p heard) where
 
   -- a working node that heard its neighbours' marks, all of them and no others, gets its own
   pub heard_marks : (o : ℕ) → Inside m.sizes p → T (works m p)
-      → ((j : ℕ) (q : Place) → next m.sizes p j ≡ At q → T (not (wall m p j q)) → heard j ≡ byte_of (holds m o q))
+      → ((j : ℕ) (q : Place) → next m.sizes p j ≡ Some q → T (not (wall m p j q)) → heard j ≡ byte_of (holds m o q))
       → rule_byte m.sizes o heard ≡ mark_at m o p
   heard_marks o i w r =
       says_rule o (λ j k q. holds m o q k) (λ j q e n. rw (r j q e n) (has_byte (holds m o q)))
@@ -76,11 +74,11 @@ module _ (m : Map) (p : Place) (heard : ℕ → ℕ) (g : Heard m p heard) where
 -- ---- each neighbour tells its byte
 
 module _ (m : Map) (bytes : Place → ℕ) (p : Place) where
-  read_word : (j : ℕ) (q : Place) → next m.sizes p j ≡ At q → T (not (wall m p j q)) → read_at m bytes p j ≡ bytes q
+  read_word : (j : ℕ) (q : Place) → next m.sizes p j ≡ Some q → T (not (wall m p j q)) → read_at m bytes p j ≡ bytes q
   read_word j q e n = rw e (cond_false (wall m p j q) 1 (bytes q) n)
 
   -- what is read so is as it should be heard
-  pub read_heard : ((j : ℕ) (q : Place) → next m.sizes p j ≡ At q → T (not (wall m p j q)) → T (is_word (bytes q))) → Heard m p (read_at m bytes p)
+  pub read_heard : ((j : ℕ) (q : Place) → next m.sizes p j ≡ Some q → T (not (wall m p j q)) → T (is_word (bytes q))) → Heard m p (read_at m bytes p)
   read_heard r = record {
     edge = λ j l e. rw e;
     dead = λ j q e t. rw e (cond_true (wall m p j q) 1 (bytes q) t);
@@ -88,7 +86,7 @@ module _ (m : Map) (bytes : Place → ℕ) (p : Place) where
   }
 
   -- the byte rule is the rule of each mark, the neighbours' bytes saying which are marked
-  pub byte_rule : (o : ℕ) → ((j : ℕ) (q : Place) → next m.sizes p j ≡ At q → T (not (wall m p j q)) → T (is_word (bytes q)))
+  pub byte_rule : (o : ℕ) → ((j : ℕ) (q : Place) → next m.sizes p j ≡ Some q → T (not (wall m p j q)) → T (is_word (bytes q)))
       → rule_byte m.sizes o (read_at m bytes p) ≡ byte_of λ k. rule m.sizes (heading o k) (blocks m (λ q. has (bytes q) k) p)
   byte_rule o r = says_rule m p (read_at m bytes p) (read_heard r) o (λ j k q. has (bytes q) k) λ j q e n k. ap (λ (b : ℕ). has b k) (read_word j q e n)
 
@@ -125,7 +123,7 @@ module _ (m : Map) (o : ℕ) where
       held : (k : Kind) (q : Place) → T (works m q) → marks k q ≡ has (bytes q) k
       held k q wq = ap (λ (t : Bool). t && has (bytes q) k) ((holds_true (works m q)).0 wq)
 
-      words : (q : Place) → Inside m.sizes q → (j : ℕ) (u : Place) → next m.sizes q j ≡ At u → T (not (wall m q j u)) → T (is_word (bytes u))
+      words : (q : Place) → Inside m.sizes q → (j : ℕ) (u : Place) → next m.sizes q j ≡ Some u → T (not (wall m q j u)) → T (is_word (bytes u))
       words q iq j u e n = word u (next_in m.sizes q u iq j e) (open_works q j u n)
 
       ruled : (k : Kind) (q : Place) → Inside m.sizes q → marks k q ≡ marked m (heading o k) (marks k) q

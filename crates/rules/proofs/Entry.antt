@@ -1,6 +1,5 @@
 -- The call for the marks: which refusal stands, what a grant tells, and what is to be written. Assumes nothing.
 use mathlib.Core.Path.{◌≡◌, ◌∙◌}
-use mathlib.Core.Bool.{true, false}
 use mathlib.Core.List.{List, [], ◌∷◌, ◌++◌}
 use Prim.Native.Nat.{ℕ, ◌≤◌}
 use native.Mathlib.Omega.{arith}
@@ -8,13 +7,11 @@ use lib.Dec.{leb}
 use lib.ListN.{length, get_or, drop, get_or-append}
 use Rattle.mesh.specs.Mesh.{nodes, number, Inside}
 use Rattle.mesh.specs.Cells.{map_of}
-use Rattle.mesh.specs.Answers.{answer_no, answer_bad, ◌and_then◌, check_map, check_orientation, check_room}
+use Rattle.mesh.specs.Answers.{answer_no, answer_bad, ◌and_then◌, check_map, check_orientation, check_room, accepted}
 use Rattle.mesh.specs.Order.{◌else◌, map_checks, NamesBad}
 use Rattle.mesh.specs.declared.Sizes.{Sizes}
 use Rattle.mesh.specs.declared.Place.{Place}
-use Rattle.mesh.specs.declared.Refusal.{Refusal}
 use Rattle.mesh.specs.declared.Refusal.TheVariants.{BadNumber, NoRoom}
-use Rattle.mesh.specs.declared.Answer.TheVariants.{Done, Refused}
 use Rattle.mesh.proofs.Answers.{split, Checked, map_granted, orientation_granted, room_granted}
 use Rattle.mesh.proofs.Order.{◌decide◌, decides_then, map_decided, orientation_decided, room_decided, bad_after, bad_map}
 use Rattle.mesh.proofs.Fill.{front_kept, front_size}
@@ -31,23 +28,7 @@ pub record Granted (S : Sizes) (cells : List ℕ) (o room : ℕ) : Type 0 where
   pub fits : nodes S ≤ room
 
 module _ (S : Sizes) (cells : List ℕ) (o room : ℕ) where
-  pub marks_map : (r : Refusal) → check_map S cells ≡ Refused r → Refused r ≡ marks_answer S cells o room
-  unfolding marks_answer
-  marks_map r e = rw e
-
-  pub marks_5 : check_map S cells ≡ Done → leb o 7 ≡ false → Refused BadNumber ≡ marks_answer S cells o room
-  unfolding marks_answer
-  marks_5 e e5 = rw (e, e5)
-
-  pub marks_3 : check_map S cells ≡ Done → leb o 7 ≡ true → leb (nodes S) room ≡ false → Refused NoRoom ≡ marks_answer S cells o room
-  unfolding marks_answer
-  marks_3 e e5 e3 = rw (e, e5, e3)
-
-  pub marks_0 : check_map S cells ≡ Done → leb o 7 ≡ true → leb (nodes S) room ≡ true → Done ≡ marks_answer S cells o room
-  unfolding marks_answer
-  marks_0 e e5 e3 = rw (e, e5, e3)
-
-  pub marks_granted : marks_answer S cells o room ≡ Done → Granted S cells o room
+  pub marks_granted : marks_answer S cells o room ≡ accepted → Granted S cells o room
   unfolding marks_answer
   marks_granted e =
       let (q, r) = split (check_map S cells and_then check_orientation o) (check_room (nodes S) room) e in

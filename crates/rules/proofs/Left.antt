@@ -11,7 +11,7 @@ use Rattle.rules.specs.Marks.{flip, to_go}
 use Rattle.mesh.proofs.Steps.{room, go, put, next_along, led}
 use Rattle.mesh.specs.declared.Sizes.{Sizes}
 use Rattle.mesh.specs.declared.Place.{Place}
-use Rattle.mesh.specs.declared.Next.TheVariants.{At, Edge}
+use Rattle.std.specs.Prelude.{Some, None}
 
 pub flip_lt : (down : Bool) (n c : ℕ) → c < n → flip down n c < n
 flip_lt true n c h = h
@@ -23,7 +23,7 @@ flip_flip false n c h = omega arith
 
 -- a step ahead from where c steps are left: there is room for it if one is left, and it takes one away
 step_flip : (down : Bool) (n c : ℕ) (f : ℕ → Place) → c < n
-    → cond (room down (flip down n c) n) (At (f (go down (flip down n c)))) Edge ≡ cond (ltb 0 c) (At (f (flip down n (c - 1)))) Edge
+    → cond (room down (flip down n c) n) (Some (f (go down (flip down n c)))) None ≡ cond (ltb 0 c) (Some (f (flip down n (c - 1)))) None
 step_flip true n c f h = refl
 step_flip false n zero f h = rw (le-ltb (n - 1 - 0 + 1) n (omega arith))
 step_flip false n (suc c) f h =
@@ -59,7 +59,7 @@ module _ (S : Sizes) (o : ℕ) where
 
   -- the step ahead on an axis: to the place with one step less, or over the edge if none is left
   pub next_left : (s : Place) → Inside S s → (a : Axis)
-      → next S (to_go S o s) (ahead o a) ≡ cond (ltb 0 (on s a)) (At (to_go S o (put a s (on s a - 1)))) Edge
+      → next S (to_go S o s) (ahead o a) ≡ cond (ltb 0 (on s a)) (Some (to_go S o (put a s (on s a - 1)))) None
   next_left s i X = next_along S (to_go S o s) (to_go_in s i) X (runs_down o X) ∙ step_flip (runs_down o X) S.w s.x (put X (to_go S o s)) i.x_in
   next_left s i Y = next_along S (to_go S o s) (to_go_in s i) Y (runs_down o Y) ∙ step_flip (runs_down o Y) S.h s.y (put Y (to_go S o s)) i.y_in
   next_left s i Z = next_along S (to_go S o s) (to_go_in s i) Z (runs_down o Z) ∙ step_flip (runs_down o Z) S.d s.z (put Z (to_go S o s)) i.z_in
@@ -69,7 +69,7 @@ module _ (S : Sizes) (o : ℕ) where
   left_lt p i = let q = to_go_in p i in omega arith
 
   -- a step ahead leaves fewer steps
-  pub nearer : (p q : Place) (a : Axis) → Inside S p → next S p (ahead o a) ≡ At q → left S o q < left S o p
+  pub nearer : (p q : Place) (a : Axis) → Inside S p → next S p (ahead o a) ≡ Some q → left S o q < left S o p
   nearer p q a i e = let (t, f) = led S p i a (runs_down o a) q e in rw f (lower a t)
     where
       lower : (a : Axis) → T (room (runs_down o a) (on p a) (span S a)) → left S o (put a p (go (runs_down o a) (on p a))) < left S o p

@@ -9,8 +9,7 @@ use Rattle.mesh.specs.Tools.{implies, table}
 use Rattle.mesh.specs.Mesh.{Axis, on, every, nodes, Inside, number, place_of}
 use Rattle.mesh.specs.Steps.{ahead, behind, reversed}
 use Rattle.mesh.specs.Cells.{Map, faulty, works, wall}
-use Rattle.rules.specs.Marks.{counted, rule, blocks_by, blocks, marked, stuck_within, stuck, Kind, useless, cant_reach, heading, holds}
-use Rattle.rules.specs.Marks.{Ruled, Rules, Closed, byte_of, mark_at, marks_of, to_go, shut}
+use Rattle.rules.specs.Marks.{counted, rule, blocks_by, blocks, marked, stuck_within, stuck, Kind, useless, cant_reach, heading, holds, Ruled, Rules, Closed, byte_of, mark_at, marks_of, to_go, shut}
 use Rattle.mesh.proofs.Tests.{bool_ext, holds_true}
 use Rattle.mesh.proofs.Tables.{length_table, get_d_table}
 use Rattle.mesh.proofs.Numbers.{number_lt, place_of_lem}
@@ -19,7 +18,7 @@ use Rattle.rules.proofs.Rule.{rule_same, blocks_grows, marked_iff, flat_heading}
 use Rattle.rules.proofs.Left.{to_go_in, next_left}
 use Rattle.rules.proofs.Stuck.{stuck_is, unique, least}
 use Rattle.mesh.specs.declared.Place.{Place}
-use Rattle.mesh.specs.declared.Next.TheVariants.{At, Edge}
+use Rattle.std.specs.Prelude.{Some, None}
 
 -- ---- the two marks
 
@@ -145,7 +144,7 @@ module _ (m : Map) (o : ℕ) (s : Place) where
   blocks_left i mark a = ap (blocks_by m mark here (ahead o a)) (next_left m.sizes o s i a) ∙ tested (ltb 0 (on s a))
     where
       tested : (t : Bool)
-          → blocks_by m mark here (ahead o a) (cond t (At (onward a)) Edge) ≡ t && (wall m here (ahead o a) (onward a) || mark (onward a))
+          → blocks_by m mark here (ahead o a) (cond t (Some (onward a)) None) ≡ t && (wall m here (ahead o a) (onward a) || mark (onward a))
       tested true = refl
       tested false = refl
 

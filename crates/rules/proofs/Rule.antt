@@ -13,8 +13,7 @@ use Rattle.rules.specs.Marks.{counted, rule, blocks_by, blocks, marked, Ruled, K
 use Rattle.mesh.proofs.Tests.{T-and, T-or, T-implies, T-every, T-le, bool_ext}
 use Rattle.mesh.specs.declared.Sizes.{Sizes}
 use Rattle.mesh.specs.declared.Place.{Place}
-use Rattle.mesh.specs.declared.Next.{Next}
-use Rattle.mesh.specs.declared.Next.TheVariants.{At, Edge}
+use Rattle.std.specs.Prelude.{Some, None, Option}
 
 -- ---- the rule
 
@@ -42,7 +41,7 @@ rule_same S o o' b c e = bool_ext (rule S o b) (rule S o' c)
 
 module _ (m : Map) where
   -- "A neighbour beyond the mesh's edge blocks nothing."
-  pub edge_open : (mark : Place → Bool) (p : Place) (j : ℕ) → next m.sizes p j ≡ Edge → blocks m mark p j ≡ false
+  pub edge_open : (mark : Place → Bool) (p : Place) (j : ℕ) → next m.sizes p j ≡ None → blocks m mark p j ≡ false
   edge_open mark p j e = rw e
 
   -- a faulty neighbour blocks by itself
@@ -52,22 +51,22 @@ module _ (m : Map) where
 
   -- "its neighbour .. exists and is faulty or useless"
   pub blocks_read : (mark : Place → Bool) (p : Place) (j : ℕ)
-      → T (blocks m mark p j) ↔ ((q : Place) × (next m.sizes p j ≡ At q) × (T (wall m p j q) ⊎ T (mark q)))
+      → T (blocks m mark p j) ↔ ((q : Place) × (next m.sizes p j ≡ Some q) × (T (wall m p j q) ⊎ T (mark q)))
   blocks_read mark p j = go (next m.sizes p j) refl
     where
-      go : (n : Next) → next m.sizes p j ≡ n
-          → T (blocks_by m mark p j n) ↔ ((q : Place) × (next m.sizes p j ≡ At q) × (T (wall m p j q) ⊎ T (mark q)))
-      go (At q) e = (
+      go : (n : Option Place) → next m.sizes p j ≡ n
+          → T (blocks_by m mark p j n) ↔ ((q : Place) × (next m.sizes p j ≡ Some q) × (T (wall m p j q) ⊎ T (mark q)))
+      go (Some q) e = (
         λ t. (q, e, (T-or (wall m p j q) (mark q)).0 t),
         λ r.
             let (q', e', w) = r in
             let f : q ≡ q' = cc in
             (T-or (wall m p j q) (mark q)).1 (rw f w),
       )
-      go Edge e = (λ t. absurd t, λ r. let (q, e', w) = r in let z : ◌≡◌ {A = ℕ} 0 1 = cc in absurd (omega arith))
+      go None e = (λ t. absurd t, λ r. let (q, e', w) = r in let z : ◌≡◌ {A = ℕ} 0 1 = cc in absurd (omega arith))
 
   -- the more is marked, the more blocks
-  pub blocks_grows : (A B : Place → Bool) (p : Place) (j : ℕ) → ((q : Place) → next m.sizes p j ≡ At q → T (A q) → T (B q))
+  pub blocks_grows : (A B : Place → Bool) (p : Place) (j : ℕ) → ((q : Place) → next m.sizes p j ≡ Some q → T (A q) → T (B q))
       → T (blocks m A p j) → T (blocks m B p j)
   blocks_grows A B p j f t =
       let (q, e, w) = (blocks_read A p j).0 t in
@@ -83,7 +82,7 @@ module _ (m : Map) where
 
   -- the mark of a node depends on nothing but the marks of its neighbours ahead, and grows with them
   pub marked_grows : (o : ℕ) (A B : Place → Bool) (p : Place)
-      → ((a : Axis) (q : Place) → next m.sizes p (ahead o a) ≡ At q → T (A q) → T (B q))
+      → ((a : Axis) (q : Place) → next m.sizes p (ahead o a) ≡ Some q → T (A q) → T (B q))
       → T (marked m o A p) → T (marked m o B p)
   marked_grows o A B p f t =
       let (w, r) = (marked_iff o A p).0 t in

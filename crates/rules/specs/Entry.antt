@@ -3,9 +3,8 @@ use Rattle.std.specs.Prelude.{List, ◌++◌, ℕ, length, drop}
 use Rattle.mesh.specs.Mesh.{nodes}
 use Rattle.mesh.specs.Cells.{map_of}
 use Rattle.rules.specs.Marks.{marks_of}
-use Rattle.mesh.specs.Answers.{granted, ◌and_then◌, check_map, check_orientation, check_room}
+use Rattle.mesh.specs.Answers.{granted, ◌and_then◌, check_map, check_orientation, check_room, Answer}
 use Rattle.mesh.specs.declared.Sizes.{Sizes}
-use Rattle.mesh.specs.declared.Answer.{Answer}
 
 -- refusals 1, 2, 4, 5, 3, in this order; `room` bytes are lent
 unfoldable pub marks_answer : Sizes → List ℕ → ℕ → ℕ → Answer

@@ -1,13 +1,11 @@
 -- 01, "The two marks". Assumes nothing.
-use Rattle.std.specs.Prelude.{Bool, true, false, cond, not, ◌&&◌, ◌||◌, List, ◌≡◌, ◌↔◌, ℕ, zero, suc, ◌+◌, ◌-◌, ◌*◌, ◌/◌, ◌%◌, ◌<◌, T, eqb, leb}
+use Rattle.std.specs.Prelude.{Bool, true, false, cond, not, ◌&&◌, ◌||◌, List, ◌≡◌, ◌↔◌, ℕ, zero, suc, ◌+◌, ◌-◌, ◌*◌, ◌/◌, ◌%◌, ◌<◌, T, eqb, leb, Some, None, Option}
 use Rattle.mesh.specs.Tools.{bit, implies, table}
 use Rattle.mesh.specs.Mesh.{Axis, X, Y, Z, span, every, place, nodes, place_of, Inside}
 use Rattle.mesh.specs.Steps.{next, runs_down, ahead, behind, reversed}
 use Rattle.mesh.specs.Cells.{Map, faulty, works, wall}
 use Rattle.mesh.specs.declared.Sizes.{Sizes}
 use Rattle.mesh.specs.declared.Place.{Place}
-use Rattle.mesh.specs.declared.Next.{Next}
-use Rattle.mesh.specs.declared.Next.TheVariants.{At, Edge}
 
 -- "An axis counts if its size is 2 or more."
 abbrev pub counted : Sizes → Axis → Bool
@@ -19,9 +17,9 @@ rule S o blocked = every λ a. implies (counted S a) (blocked (ahead o a))
 
 -- What lies one step from p in direction j blocks p if it exists and is faulty or, by `mark`, marked.
 -- "A neighbour beyond the mesh's edge blocks nothing."
-abbrev pub blocks_by : Map → (Place → Bool) → Place → ℕ → Next → Bool
-blocks_by m mark p j (At q) = wall m p j q || mark q
-blocks_by m mark p j Edge = false
+abbrev pub blocks_by : Map → (Place → Bool) → Place → ℕ → Option Place → Bool
+blocks_by m mark p j (Some q) = wall m p j q || mark q
+blocks_by m mark p j None = false
 
 abbrev pub blocks : Map → (Place → Bool) → Place → ℕ → Bool
 blocks m mark p j = blocks_by m mark p j (next m.sizes p j)
@@ -40,8 +38,8 @@ stuck m o p = stuck_within (m.sizes.w + m.sizes.h + m.sizes.d) m o p
 
 -- The same as relations: p's neighbour in direction j blocks p, and p is stuck.
 pub data Blocks (m : Map) (o : ℕ) : Place → ℕ → Type 0 where
-  by_wall : {p q : Place} {j : ℕ} → next m.sizes p j ≡ At q → T (wall m p j q) → Blocks m o p j
-  by_mark : {p q : Place} {j : ℕ} → next m.sizes p j ≡ At q → T (works m q)
+  by_wall : {p q : Place} {j : ℕ} → next m.sizes p j ≡ Some q → T (wall m p j q) → Blocks m o p j
+  by_mark : {p q : Place} {j : ℕ} → next m.sizes p j ≡ Some q → T (works m q)
       → ((a : Axis) → T (counted m.sizes a) → Blocks m o q (ahead o a)) → Blocks m o p j
 
 pub record Stuck (m : Map) (o : ℕ) (p : Place) : Type 0 where
@@ -105,14 +103,14 @@ rule_byte S o heard = byte_of λ k. rule S (heading o k) λ j. byte_blocks (hear
 
 -- "For a working node, heard is 8 where no neighbour exists, 1 where the neighbour is faulty, else a word."
 pub record Heard (m : Map) (p : Place) (heard : ℕ → ℕ) : Type 0 where
-  pub edge : (j : ℕ) → j < 6 → next m.sizes p j ≡ Edge → heard j ≡ 8
-  pub dead : (j : ℕ) (q : Place) → next m.sizes p j ≡ At q → T (wall m p j q) → heard j ≡ 1
-  pub word : (j : ℕ) (q : Place) → next m.sizes p j ≡ At q → T (not (wall m p j q)) → T (is_word (heard j))
+  pub edge : (j : ℕ) → j < 6 → next m.sizes p j ≡ None → heard j ≡ 8
+  pub dead : (j : ℕ) (q : Place) → next m.sizes p j ≡ Some q → T (wall m p j q) → heard j ≡ 1
+  pub word : (j : ℕ) (q : Place) → next m.sizes p j ≡ Some q → T (not (wall m p j q)) → T (is_word (heard j))
 
 -- what p hears so if each neighbour tells it its byte
-abbrev pub read_by : Map → (Place → ℕ) → Place → ℕ → Next → ℕ
-read_by m bytes p j (At q) = cond (wall m p j q) 1 (bytes q)
-read_by m bytes p j Edge = 8
+abbrev pub read_by : Map → (Place → ℕ) → Place → ℕ → Option Place → ℕ
+read_by m bytes p j (Some q) = cond (wall m p j q) 1 (bytes q)
+read_by m bytes p j None = 8
 
 abbrev pub read_at : Map → (Place → ℕ) → Place → ℕ → ℕ
 read_at m bytes p j = read_by m bytes p j (next m.sizes p j)

@@ -2,37 +2,35 @@
 // byte and its component's number, then each component's record. What it must print was written by the independent search program.
 #![tactic(auto)]
 
+use components::Found;
 use components::entry::compute;
-use format::MapRead;
 use mapfile::reader::read_map;
 use marks::entry::marks;
+use mesh::Sizes;
 use mesh::entries::place_of;
-use mesh::{Placed, Sizes};
 use std::io::{Read, Result, Write};
-use text::running::{print_front, read_front};
-use text::tell;
+use text::Page;
+use text::running::read_front;
 use touching::Component;
 
 // An unsafe node.
 fn say_node<W: Write>(s: Sizes, k: usize, mark: u8, component: u16, out: &mut W) -> Result<()> {
-    if let Placed::Found(p) = place_of(s, k) {
-        let mut line = [0u8; 4096];
-        let n = tell(
+    if let Ok(p) = place_of(s, k) {
+        let mut line = Page::<4096>::blank();
+        line.tell(
             b"place % % % mark % component %\n",
             &[p.x, p.y, p.z, mark as usize, component as usize],
-            &mut line,
-            0,
         );
-        print_front(out, &line, n)?;
+        out.write_all(line.text())?;
     }
     Ok(())
 }
 
 // All unsafe nodes.
 fn say_nodes<W: Write>(s: Sizes, marked: &[u8], table: &[u16], out: &mut W) -> Result<()> {
-    for k in 0..marked.len() {
-        if marked[k] != 0 && k < table.len() {
-            say_node(s, k, marked[k], table[k], out)?;
+    for (k, (&mark, &component)) in marked.iter().zip(table).enumerate() {
+        if mark != 0 {
+            say_node(s, k, mark, component, out)?;
         }
     }
     Ok(())
@@ -40,8 +38,8 @@ fn say_nodes<W: Write>(s: Sizes, marked: &[u8], table: &[u16], out: &mut W) -> R
 
 // A component.
 fn say_component<W: Write>(i: usize, c: Component, out: &mut W) -> Result<()> {
-    let mut line = [0u8; 4096];
-    let n = tell(
+    let mut line = Page::<4096>::blank();
+    line.tell(
         b"component % nodes % from % % % to % % %\n",
         &[
             i,
@@ -53,18 +51,14 @@ fn say_component<W: Write>(i: usize, c: Component, out: &mut W) -> Result<()> {
             c.y1 as usize,
             c.z1 as usize,
         ],
-        &mut line,
-        0,
     );
-    print_front(out, &line, n)
+    out.write_all(line.text())
 }
 
-// The first components.
-fn say_components<W: Write>(records: [Component; 1024], count: usize, out: &mut W) -> Result<()> {
-    for i in 0..1024 {
-        if i < count {
-            say_component(i + 1, records[i], out)?;
-        }
+// All components.
+fn say_components<W: Write>(records: &[Component], out: &mut W) -> Result<()> {
+    for (i, &c) in records.iter().enumerate() {
+        say_component(i + 1, c, out)?;
     }
     Ok(())
 }
@@ -73,11 +67,11 @@ fn say_components<W: Write>(records: [Component; 1024], count: usize, out: &mut 
 fn say_map<W: Write>(s: Sizes, cells: &[u8], out: &mut W) -> Result<()> {
     let mut marked = [0u8; 4096];
     let mut table = [0u16; 4096];
-    marks(s, cells, 0, &mut marked);
-    let found = compute(s, cells, 0, &mut table, 4096);
+    let _ = marks(s, cells, 0, &mut marked);
+    let mut found = Found::none();
+    let _ = compute(s, cells, 0, &mut table, 4096, &mut found);
     say_nodes(s, &marked, &table, out)?;
-    let records = found.records;
-    say_components(records, found.count, out)
+    say_components(found.as_slice(), out)
 }
 
 // The sample that is read, and all of it printed.
@@ -85,7 +79,7 @@ fn run<R: Read, W: Write>(from: &mut R, out: &mut W) -> Result<()> {
     let mut file = [0u8; 65536];
     let n = read_front(from, &mut file)?;
     let mut cells = [0u8; 4096];
-    if let MapRead::Read(s) = read_map(&file[..n], &mut cells) {
+    if let Ok(s) = read_map(&file[..n], &mut cells) {
         let n = s.nodes();
         say_map(s, &cells[..n], out)?;
     }

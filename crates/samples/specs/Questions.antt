@@ -1,18 +1,17 @@
 -- What a sample of 01 asks, and the numbers that the definitions answer: the refusal's number, then the values. Assumes nothing.
-use Rattle.std.specs.Prelude.{List, [], ◌∷◌, ◌++◌, ℕ, take, replicate}
+use Rattle.std.specs.Prelude.{List, [], ◌∷◌, ◌++◌, ℕ, take, replicate, Ok, Err, Result}
 use Rattle.mesh.specs.Mesh.{nodes}
 use Rattle.mesh.specs.Cells.{Map, state_length}
 use Rattle.mesh.specs.Answers.{answer_no, refusal_no}
-use Rattle.mesh.specs.declared.Numbered.{Numbered}
-use Rattle.mesh.specs.declared.Numbered.TheVariants.{Number, NotNumbered}
 use Rattle.rules.specs.Entry.{marks_answer, marks_out}
 use Rattle.touching.specs.Entry.{components_answer, components_row}
 use Rattle.touching.specs.declared.Component.{Component}
-use Rattle.paths.specs.Entries.{verdict_answer, verdict_no, verdict_hops, verdict_offered, route_answer, route_out}
-use Rattle.paths.specs.declared.Verdict.{Verdict}
+use Rattle.paths.specs.Entries.{verdict_answer, verdict_hops, verdict_offered, route_answer, route_out}
 use Rattle.talk.specs.State.{own}
 use Rattle.talk.specs.Entries.{fresh_out, hear_answer, hear_out, outstanding_answer}
 use Rattle.talk.specs.Rounds.{Call, run}
+use Rattle.mesh.specs.declared.Refusal.{Refusal}
+use Rattle.paths.specs.declared.Grant.{Grant}
 
 -- of a map: the marks or the components in an orientation; the verdict or the route from a node to a node; and, orientation 0, what a word
 -- does, or how many are outstanding, after a fresh state and these calls
@@ -29,17 +28,17 @@ lent n = replicate n 9
 abbrev pub no_record : Component
 no_record = record { count = 9; x0 = 9; y0 = 9; z0 = 9; x1 = 9; y1 = 9; z1 = 9 }
 
-abbrev pub numbers : Numbered → List ℕ
-numbers (Number n) = 0 ∷ n ∷ []
-numbers (NotNumbered r) = refusal_no r ∷ 0 ∷ []
+abbrev pub numbers : Result ℕ Refusal → List ℕ
+numbers (Ok n) = 0 ∷ n ∷ []
+numbers (Err r) = refusal_no r ∷ 0 ∷ []
 
-abbrev pub judgement : Verdict → List ℕ
-judgement v = verdict_no v ∷ verdict_hops v ∷ verdict_offered v ∷ []
+abbrev pub judgement : Result Grant Refusal → List ℕ
+judgement v = answer_no v ∷ verdict_hops v ∷ verdict_offered v ∷ []
 
 -- as many of a row's places as the call says that it wrote
-abbrev pub written : {A : Type 0} → Numbered → List A → List A
-written (Number n) l = take n l
-written (NotNumbered r) l = []
+abbrev pub written : {A : Type 0} → Result ℕ Refusal → List A → List A
+written (Ok n) l = take n l
+written (Err r) l = []
 
 abbrev pub records : List Component → List ℕ
 records [] = []

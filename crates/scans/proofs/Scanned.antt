@@ -15,8 +15,6 @@ use Rattle.mesh.specs.Cells.{Map, state_length}
 use Rattle.rules.specs.Marks.{byte_of, is_word, rule, rule_byte}
 use Rattle.mesh.specs.declared.Sizes.{Sizes}
 use Rattle.mesh.specs.declared.Place.{Place}
-use Rattle.mesh.specs.declared.Next.{Next}
-use Rattle.mesh.specs.declared.Next.TheVariants.{At, Edge}
 use Rattle.mesh.proofs.Tests.{T-and, T-or, T-eq, T-all, T-cond, all_same, tried, bool_ext}
 use Rattle.mesh.proofs.Numbers.{number_lt, place_in}
 use Rattle.mesh.proofs.Steps.{next_in}
@@ -30,6 +28,7 @@ use Rattle.scans.specs.Scan.{node_test, row_test}
 use Rattle.talk.proofs.State.{faulty_in, wall_in}
 use Rattle.states.proofs.Fitting.{fits_bare, fits_word}
 use Rattle.states.proofs.Heard.{heard_cases, word_heard, quick_is}
+use Rattle.std.specs.Prelude.{Some, None, Option}
 
 -- ---- bytes
 
@@ -81,7 +80,7 @@ module _ (S : Sizes) (o : ℕ) (s : List ℕ) where
   abbrev m : Map
   m = map_in S s
 
-  abbrev to : ℕ → ℕ → Next
+  abbrev to : ℕ → ℕ → Option Place
   to k j = next S (place_of S k) j
 
   -- `node_right`, with the question of the map answered from the state
@@ -98,16 +97,16 @@ module _ (S : Sizes) (o : ℕ) (s : List ℕ) where
   right_own k l t = own_of (own s k) (rule_byte S o (heard s k)) _ _ (ruled_word S o (heard s k)) (rw (right_is k l) at t)
 
   module _ (owns : (k : ℕ) → k < nodes S → T (is_own (own s k))) (k : ℕ) (l : k < nodes S) where
-    inside : (j : ℕ) (q : Place) → to k j ≡ At q → Inside S q
+    inside : (j : ℕ) (q : Place) → to k j ≡ Some q → Inside S q
     inside j q e = next_in S (place_of S k) q (place_in S k l) j e
 
     side_same : (j : ℕ) → fits (shows S s k j) (heard s k j) ≡ heard_right m s k j (to k j)
     unfolding around
     side_same j = go (to k j) refl
       where
-        go : (n : Next) → to k j ≡ n → fits (around_at S (own s) n) (heard s k j) ≡ heard_right m s k j n
-        go Edge e = fits_bare 8 (heard s k j) refl
-        go (At q) e =
+        go : (n : Option Place) → to k j ≡ n → fits (around_at S (own s) n) (heard s k j) ≡ heard_right m s k j n
+        go None e = fits_bare 8 (heard s k j) refl
+        go (Some q) e =
             let i = inside j q e in
             rw (wall_in S s (place_of S k) j q i) (fits_own (own s (number S q)) (heard s k j) (owns (number S q) (number_lt S q i)))
 
@@ -115,9 +114,9 @@ module _ (S : Sizes) (o : ℕ) (s : List ℕ) where
     unfolding around is_heard
     shows_heard j = go (to k j) refl
       where
-        go : (n : Next) → to k j ≡ n → T (is_heard (around_at S (own s) n))
-        go Edge e = tt
-        go (At q) e = (T-or (eqb (own s (number S q)) 8) (is_own (own s (number S q)))).1
+        go : (n : Option Place) → to k j ≡ n → T (is_heard (around_at S (own s) n))
+        go None e = tt
+        go (Some q) e = (T-or (eqb (own s (number S q)) 8) (is_own (own s (number S q)))).1
             (inr (owns (number S q) (number_lt S q (inside j q e))))
 
     told_same : all 6 (λ j. fits (shows S s k j) (heard s k j)) ≡ all 6 (λ j. heard_right m s k j (to k j))

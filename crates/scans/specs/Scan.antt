@@ -1,12 +1,12 @@
 -- How the code goes through a state: node by node, row by row. `scan_is` and `news_is` of proofs/ show that it finds what 01 says. Assumes
 -- nothing.
-use Rattle.std.specs.Prelude.{Bool, cond, not, ◌&&◌, List, ℕ, ◌+◌, ◌*◌, eqb}
+use Rattle.std.specs.Prelude.{Bool, true, cond, not, ◌&&◌, List, ℕ, ◌≡◌, ◌+◌, ◌*◌, ◌≤◌, eqb}
 use Rattle.mesh.specs.Tools.{all, sum, count}
 use Rattle.mesh.specs.Mesh.{place_of}
 use Rattle.mesh.specs.declared.Sizes.{Sizes}
 use Rattle.talk.specs.State.{own, heard, map_in}
 use Rattle.talk.specs.Sound.{faulty_hears}
-use Rattle.states.specs.Six.{fits, quick_rule, shows}
+use Rattle.states.specs.Six.{fits, quick_rule, shows, ones, ◌is_but255◌}
 
 -- the seven bytes of node k pass the test
 unfoldable pub node_test : Sizes → ℕ → List ℕ → ℕ → Bool
@@ -29,3 +29,11 @@ node_news S s k = cond (eqb (own s k) 1) 0 (count 6 λ j. not (eqb (shows S s k 
 -- in row r
 abbrev pub row_news : Sizes → List ℕ → ℕ → ℕ
 row_news S s r = sum S.w λ x. node_news S s (x + S.w * r)
+
+-- ---- both
+
+-- node k passes, and n counts its words, but for a multiple of 255
+pub record Right (S : Sizes) (o : ℕ) (s : List ℕ) (k n : ℕ) : Type 0 where
+  pub passes : node_test S o s k ≡ true
+  pub counts : n is_but255 node_news S s k
+  pub few : n ≤ ones

@@ -1,11 +1,12 @@
 -- What the code asks of six bytes at once: what it finds is what the definitions ask of each byte. Assumes nothing.
 use mathlib.Core.Path.{◌≡◌, refl, sym, ap, ap₂, ◌∙◌}
 use mathlib.Core.Bool.{Bool, true, false, not, ◌&&◌}
-use Prim.Native.Nat.{ℕ, zero, suc, ◌+◌, ◌-◌, ◌*◌, ◌/◌, ◌%◌, ◌<◌, ◌≤◌}
+use Prim.Native.Nat.{ℕ, zero, suc, ◌+◌, ◌-◌, ◌*◌, ◌/◌, ◌%◌, ◌^◌, ◌<◌, ◌≤◌}
 use native.Mathlib.Omega.{arith}
 use native.Mathlib.Nat.{mod-lt, mul-one, mul-zero}
-use lib.Bits.{bit_and, bit_or, and_le_r, and_zero_r, or_lt}
+use lib.Bits.{bit_and, bit_or, bit_xor, and_le_r, and_zero_r, or_lt, xor_lt}
 use lib.Dec.{T, eqb}
+use Rattle.std.specs.Prelude.{[], ◌∷◌, slice_index}
 use Rattle.mesh.specs.Tools.{bit, implies, all}
 use Rattle.mesh.specs.Mesh.{X, Y, Z, InRange}
 use Rattle.mesh.specs.Steps.{runs_down, along}
@@ -18,15 +19,21 @@ use Rattle.states.proofs.Quick.{all_axes, rule_axes, rule_six}
 use Rattle.states.proofs.Packed.{packed_same, same_packed, packed_eq, packed_and, packed_or, packed_add, packed_mul, packed_le, six_ones}
 
 -- six bytes are below 2 to the 48
-pub six_lt : (f : ℕ → ℕ) → Bytes f → six f < 281474976710656
+pub six_lt : (f : ℕ → ℕ) → Bytes f → six f < 2 ^ 48
 six_lt f b = omega (arith, packed_le 6 f (λ j. 255) (λ j. omega (arith, b j)), six_ones 255)
+
+pub or_small : (a b : ℕ) → a < 2 ^ 48 → b < 2 ^ 48 → bit_or a b < 2 ^ 48
+or_small = or_lt 48
+
+pub xor_small : (a b : ℕ) → a < 2 ^ 48 → b < 2 ^ 48 → bit_xor a b < 2 ^ 48
+xor_small = xor_lt 48
 
 -- and every number below that is six bytes, its own
 pub byte_lt : (n : ℕ) → Bytes (byte_at n)
 byte_lt n zero = mod-lt n (omega arith)
 byte_lt n (suc j) = byte_lt (n / 256) j
 
-pub six_bytes : (n : ℕ) → n < 281474976710656 → six (byte_at n) ≡ n
+pub six_bytes : (n : ℕ) → n < 2 ^ 48 → six (byte_at n) ≡ n
 unfolding packed
 six_bytes n l = omega arith
 
@@ -54,7 +61,7 @@ module _ (S : Sizes) (o : ℕ) where
   e j = bit (looks S o j)
 
   pub looks_six : (u v : ℕ) → u ≡ bit (counted S Z) → v ≡ bit (counted S Z)
-      → 1 - o % 2 + 256 * (o % 2 + 256 * (1 - o / 2 % 2 + 256 * (o / 2 % 2 + 256 * (bit_and (1 - o / 4 % 2) u + 256 * bit_and (o / 4 % 2) v)))) ≡ six e
+      → six (slice_index ((1 - o % 2) ∷ (o % 2) ∷ (1 - o / 2 % 2) ∷ (o / 2 % 2) ∷ bit_and (1 - o / 4 % 2) u ∷ bit_and (o / 4 % 2) v ∷ [])) ≡ six e
   unfolding packed
   looks_six u v eu ev =
       let (x, x') = bit_of (o % 2) (mod-lt o (omega arith)) in

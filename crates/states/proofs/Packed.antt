@@ -6,6 +6,7 @@ use native.Mathlib.Omega.{arith}
 use native.Mathlib.Nat.{not-suc-le-zero}
 use lib.Bits.{bit_and, bit_or, bit_xor, and_block, or_block, xor_block}
 use lib.Dec.{eqb}
+use Rattle.std.specs.Prelude.{[], ◌∷◌, slice_index}
 use Rattle.mesh.specs.Tools.{all, sum}
 use Rattle.mesh.proofs.Tests.{T-eq, T-all, bool_ext}
 use Rattle.mesh.proofs.Tables.{sum_first}
@@ -83,9 +84,9 @@ pub but_few : (n c : ℕ) → n is_but255 c → c < 255 → n % 255 ≡ c
 but_few n c (e, h) l = rw h (omega arith)
 
 -- as the code puts six together
-pub six_is : (f : ℕ → ℕ) → f 0 + 256 * (f 1 + 256 * (f 2 + 256 * (f 3 + 256 * (f 4 + 256 * f 5)))) ≡ six f
+pub six_is : (f : ℕ → ℕ) → six (slice_index (f 0 ∷ f 1 ∷ f 2 ∷ f 3 ∷ f 4 ∷ f 5 ∷ [])) ≡ six f
 unfolding packed
-six_is f = omega arith
+six_is f = refl
 
 -- the same byte in each
 pub six_ones : (c : ℕ) → six (λ j. c) ≡ c * ones

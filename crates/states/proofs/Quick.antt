@@ -1,9 +1,9 @@
--- Bytes joined by the machine's operations are tests joined; and the rule, axis by axis and by other tests. Assumes nothing.
+-- A test by the machine's `^`; and the rule, axis by axis and by other tests. Assumes nothing.
 use mathlib.Core.Path.{◌≡◌, ap, ap₂}
 use mathlib.Core.Bool.{Bool, ◌&&◌}
 use Prim.Native.Nat.{ℕ, ◌+◌, ◌*◌, ◌<◌}
 use native.Mathlib.Omega.{arith}
-use lib.Bits.{bit_or, bit_xor, or_add_and, xor_add_and, and_le_l, and_le_r, xor_self}
+use lib.Bits.{bit_xor, xor_add_and, and_le_l, and_le_r, xor_self}
 use lib.Dec.{T, eqb}
 use borrow.Author.Tests.{le-leb}
 use Rattle.mesh.specs.Tools.{bit, implies, all}
@@ -16,21 +16,7 @@ use Rattle.mesh.proofs.Steps.{dir_lt}
 use Rattle.rules.proofs.Rule.{rule_same}
 use Rattle.states.specs.Six.{rule_by}
 
--- ---- bytes that are 0 where a test holds
-
-pub or_none : (a b : ℕ) → eqb (bit_or a b) 0 ≡ eqb a 0 && eqb b 0
-or_none a b = bool_ext (eqb (bit_or a b) 0) (eqb a 0 && eqb b 0)
-    (λ t.
-    let e : bit_or a b ≡ 0 = (T-eq (bit_or a b) 0).0 t in
-    let s = or_add_and a b in
-    let l = and_le_l a b in
-    let r = and_le_r a b in
-    (T-and (eqb a 0) (eqb b 0)).1 ((T-eq a 0).1 (omega arith), (T-eq b 0).1 (omega arith)))
-    (λ t.
-    let (p, q) = (T-and (eqb a 0) (eqb b 0)).0 t in
-    let ea : a ≡ 0 = (T-eq a 0).0 p in
-    let eb : b ≡ 0 = (T-eq b 0).0 q in
-    (T-eq (bit_or a b) 0).1 (omega (arith, or_add_and a b)))
+-- ---- a number that is 0 where a test holds
 
 pub xor_none : (a b : ℕ) → eqb (bit_xor a b) 0 ≡ eqb a b
 xor_none a b = bool_ext (eqb (bit_xor a b) 0) (eqb a b)

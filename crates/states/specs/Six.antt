@@ -1,5 +1,5 @@
 -- How the code reads a state: six bytes at once, without branches on what a byte holds. Assumes nothing.
-use Rattle.std.specs.Prelude.{Bool, false, cond, not, ◌&&◌, ◌||◌, List, [], ◌∷◌, ◌≡◌, ℕ, zero, suc, ◌+◌, ◌-◌, ◌*◌, ◌/◌, ◌%◌, ◌<◌, ◌≤◌, eqb, ltb, length, get_or}
+use Rattle.std.specs.Prelude.{Bool, false, not, ◌&&◌, ◌||◌, List, [], ◌∷◌, ◌≡◌, ℕ, zero, suc, ◌+◌, ◌*◌, ◌/◌, ◌%◌, ◌<◌, ◌≤◌, eqb, length, get_or, Some, None, Option}
 use Rattle.std.specs.Int.Bits.{bit_and, bit_or}
 use Rattle.mesh.specs.Tools.{bit}
 use Rattle.mesh.specs.Mesh.{X, Y, Z, InRange, number, place_of}
@@ -7,9 +7,8 @@ use Rattle.mesh.specs.Steps.{next, runs_down, reversed}
 use Rattle.mesh.specs.Cells.{state_length}
 use Rattle.rules.specs.Marks.{counted, rule, is_word}
 use Rattle.mesh.specs.declared.Sizes.{Sizes}
-use Rattle.mesh.specs.declared.Next.{Next}
-use Rattle.mesh.specs.declared.Next.TheVariants.{At, Edge}
 use Rattle.talk.specs.State.{own}
+use Rattle.mesh.specs.declared.Place.{Place}
 
 -- what the checks have granted before a state is read
 pub record Ready (S : Sizes) (s : List ℕ) : Type 0 where
@@ -82,31 +81,19 @@ rule_by test S o h = 2 * bit (rule S o λ j. test 2 (h j)) + 4 * bit (rule S (re
 unfoldable pub quick_rule : Sizes → ℕ → (ℕ → ℕ) → ℕ
 quick_rule = rule_by hinders
 
--- what node k reads of its neighbours on an axis, if it reads f i of node i: c is k's coordinate there, n the axis's size, `step` how far apart
--- the numbers are
-abbrev pub side_up : (ℕ → ℕ) → ℕ → ℕ → ℕ → ℕ → ℕ
-side_up f k c n step = cond (ltb (c + 1) n) (f (k + step)) 8
-
-abbrev pub side_down : (ℕ → ℕ) → ℕ → ℕ → ℕ → ℕ
-side_down f k c step = cond (ltb 0 c) (f (k - step)) 8
-
--- in a list with `per` bytes for each node: node i has its first one there; so have those neighbours
+-- in a list with `per` bytes for each node: node i has its first one there
 pub record Laid (bytes : List ℕ) (per i : ℕ) : Type 0 where
   pub low : i < 4096
   pub room : per * i < length bytes
-
-pub record Near (bytes : List ℕ) (per k c n step : ℕ) : Type 0 where
-  pub above : c + 1 < n → Laid bytes per (k + step)
-  pub below : 0 < c → (step ≤ k) × Laid bytes per (k - step)
 
 -- which byte that is
 abbrev pub first_byte : List ℕ → ℕ → ℕ → ℕ
 first_byte bytes per i = get_or bytes (per * i) 0
 
 -- what node k reads of its neighbour in direction j, if it reads f i of node i; 8 where there is none
-abbrev pub around_at : Sizes → (ℕ → ℕ) → Next → ℕ
-around_at S f (At q) = f (number S q)
-around_at S f Edge = 8
+abbrev pub around_at : Sizes → (ℕ → ℕ) → Option Place → ℕ
+around_at S f (Some q) = f (number S q)
+around_at S f None = 8
 
 unfoldable pub around : Sizes → (ℕ → ℕ) → ℕ → ℕ → ℕ
 around S f k j = around_at S f (next S (place_of S k) j)

@@ -6,7 +6,7 @@ ghost use Rattle.talk.specs.State.{heard};
 ghost use Rattle.talk.specs.Sound.{faulty_hears};
 ghost use Rattle.states.specs.Six.{Held, fits, quick_rule};
 
-use crate::six::{heard, ruled};
+use crate::six::Six;
 use mesh::{Place, Sizes};
 
 // How many bytes a state has.
@@ -18,6 +18,7 @@ pub fn state_length(s: Sizes) -> usize
 }
 
 // What a faulty node holds for each direction.
+#[tactic(auto, unfolding(talk::specs::Sound::faulty_hears))]
 pub fn faulty_hears() -> u8
     ensures { (m : Map) (p : Place) (j : ℕ) → result ≡ faulty_hears m p j }
 {
@@ -25,6 +26,7 @@ pub fn faulty_hears() -> u8
 }
 
 // Is the byte b right where the neighbour shows n?
+#[tactic(auto, unfolding(crate::specs::Six::fits))]
 pub fn fits(n: u8, b: u8) -> bool
     ensures { result ≡ fits n b }
 {
@@ -32,9 +34,10 @@ pub fn fits(n: u8, b: u8) -> bool
 }
 
 // The own byte that the mark rule gives node k, by what it has heard.
+#[tactic(auto, using(crate::proofs::Beside::quick_six))]
 pub fn rule_byte(s: Sizes, o: usize, state: &[u8], k: usize) -> u8
     requires { InRange s × (o ≤ 7) × Held state.now k }
     ensures { result ≡ quick_rule s o (heard state.now k) }
 {
-    ruled(s, o, heard(state, k))
+    Six::heard(state, k).ruled(s, o)
 }

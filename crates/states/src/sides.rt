@@ -1,42 +1,31 @@
 // What stands around a node: a byte of each neighbour, 8 where there is none. Read from a state, or from the cells of a map.
-ghost use Rattle.std.specs.Prelude.{◌≡◌, ◌*◌, ◌<◌, ◌≤◌, length};
+ghost use Rattle.std.specs.Prelude.{◌≡◌, cond, ◌*◌, ◌≤◌, length, IsTrue};
 ghost use Rattle.mesh.specs.Mesh.{InRange, Inside, nodes, number};
-ghost use Rattle.states.specs.Six.{Bytes, six, side_up, side_down, Near, first_byte, around};
+ghost use Rattle.states.specs.Six.{Bytes, six, Laid, first_byte, around};
 
-use crate::six::six;
+use crate::six::Six;
 use mesh::{Place, Sizes};
 
-// The first of `per` bytes that node k's neighbour with the next coordinate on an axis has.
-fn up(bytes: &[u8], per: usize, k: usize, c: usize, n: usize, step: usize) -> u8
-    requires { (c < n) × Near bytes.now per k c n step }
-    ensures { result ≡ side_up (first_byte bytes.now per) k c n step }
+// The first of `PER` bytes that node q has, where there is such a node.
+fn side<const PER: usize>(bytes: &[u8], there: bool, q: usize) -> u8
+    requires { IsTrue there → Laid bytes.now PER q }
+    ensures { result ≡ cond there (first_byte bytes.now PER q) 8 }
 {
-    if c + 1 < n {
-        bytes[per * (k + step)]
-    } else {
-        8
-    }
-}
-
-// And of the one with the coordinate before.
-fn down(bytes: &[u8], per: usize, k: usize, c: usize, n: usize, step: usize) -> u8
-    requires { Near bytes.now per k c n step }
-    ensures { result ≡ side_down (first_byte bytes.now per) k c step }
-{
-    if 0 < c { bytes[per * (k - step)] } else { 8 }
+    if there { bytes[PER * q] } else { 8 }
 }
 
 // Of all neighbours of the node at p, whose number is k.
-pub fn around(s: Sizes, bytes: &[u8], per: usize, p: Place, k: usize) -> u64
-    requires { InRange s × (1 ≤ per) × (length bytes.now ≡ per * nodes s) × Inside s p × (k ≡ number s p) }
-    ensures { (result ≡ six (around s (first_byte bytes.now per) k)) × Bytes (around s (first_byte bytes.now per) k) }
+pub fn around<const PER: usize>(s: Sizes, bytes: &[u8], p: Place, k: usize) -> Six
+    requires { InRange s × (1 ≤ PER) × (length bytes.now ≡ PER * nodes s) × Inside s p × (k ≡ number s p) }
+    ensures { (result.bytes ≡ six (around s (first_byte bytes.now PER) k)) × Bytes (around s (first_byte bytes.now PER) k) }
 {
     let layer = s.w * s.h;
-    let x = up(bytes, per, k, p.x, s.w, 1);
-    let back_x = down(bytes, per, k, p.x, s.w, 1);
-    let y = up(bytes, per, k, p.y, s.h, s.w);
-    let back_y = down(bytes, per, k, p.y, s.h, s.w);
-    let z = up(bytes, per, k, p.z, s.d, layer);
-    let back_z = down(bytes, per, k, p.z, s.d, layer);
-    six(x, back_x, y, back_y, z, back_z)
+    Six::of([
+        side::<PER>(bytes, p.x + 1 < s.w, k + 1),
+        side::<PER>(bytes, 0 < p.x, k.wrapping_sub(1)),
+        side::<PER>(bytes, p.y + 1 < s.h, k + s.w),
+        side::<PER>(bytes, 0 < p.y, k.wrapping_sub(s.w)),
+        side::<PER>(bytes, p.z + 1 < s.d, k + layer),
+        side::<PER>(bytes, 0 < p.z, k.wrapping_sub(layer)),
+    ])
 }

@@ -13,7 +13,6 @@ use Rattle.mesh.specs.Cells.{Map, cell_at, may_pass, may_end, linked}
 use Rattle.mesh.proofs.Tests.{T-and, T-or, T-any, bool_ext, holds_true}
 use Rattle.mesh.proofs.Steps.{dir_of, dir_lt, led, put}
 use Rattle.mesh.specs.declared.Place.{Place}
-use Rattle.mesh.specs.declared.Next.TheVariants.{At}
 use Rattle.paths.specs.Differences.{preferred, same}
 use Rattle.paths.specs.Paths.{may_enter, begins, leads}
 use Rattle.paths.specs.Offered.{offers}
@@ -25,9 +24,10 @@ use Rattle.sweeps.specs.Sweep.{entry, Seen}
 use Rattle.rows.proofs.Box.{reach_in}
 use Rattle.sweeps.proofs.Runs.{held, run_on, origin, within_on, within_put, reach_first, reach_eq, lies_back, lies_back_not, put_back}
 use Rattle.rows.specs.declared.Between.{Between}
+use Rattle.std.specs.Prelude.{Some}
 
 -- a step that leads somewhere may be taken: all that is asked of `linked` here
-pub linked_to : (m : Map) (p q : Place) (j : ℕ) → next m.sizes p j ≡ At q → T (linked m p j)
+pub linked_to : (m : Map) (p q : Place) (j : ℕ) → next m.sizes p j ≡ Some q → T (linked m p j)
 unfolding linked
 linked_to m p q j h = rw h tt
 
@@ -73,12 +73,12 @@ module _ (m : Map) (s e : Place) (s_in : Inside m.sizes s) (e_in : Inside m.size
   wanted_back t w a = preferred_along (reach g t) e a (back a) ∙ lies_back e s t w a
 
   pub step_back : (t : Place) → Within g t → (a : Axis) → 0 < on t a
-      → next m.sizes (reach g t) (along a (back a)) ≡ At (reach g (put a t (on t a - 1)))
+      → next m.sizes (reach g t) (along a (back a)) ≡ Some (reach g (put a t (on t a - 1)))
   step_back t w a h =
       let p : T (preferred (reach g t) e (along a (back a))) = rw (wanted_back t w a) (lt→ltb 0 (on t a) h) in
       let (q, k) = preferred_next m.sizes (reach g t) e (node_in t w) e_in (along a (back a)) p in
       let (r, f) = led m.sizes (reach g t) (node_in t w) a (back a) q k in
-      k ∙ ap At (f ∙ put_back e s t w a h)
+      k ∙ ap Some (f ∙ put_back e s t w a h)
 
   -- a path begins so where the rest of it goes on from one step nearer
   begins_back : (rest : Place → Bool) (t : Place) → Within g t → (a : Axis)

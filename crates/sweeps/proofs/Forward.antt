@@ -13,7 +13,6 @@ use Rattle.mesh.specs.Cells.{Map, cell_at, may_pass, may_end}
 use Rattle.mesh.proofs.Tests.{T-and, T-or, tried, bool_ext, cond_true, cond_false, holds_true}
 use Rattle.mesh.proofs.Steps.{led, put}
 use Rattle.mesh.specs.declared.Place.{Place}
-use Rattle.mesh.specs.declared.Next.TheVariants.{At}
 use Rattle.paths.specs.Differences.{preferred, same}
 use Rattle.paths.specs.Paths.{may_enter, Leads, stay, hop, leads}
 use Rattle.paths.proofs.Differences.{at_eq, lies, on_put, preferred_along, preferred_read, preferred_next, same_iff}
@@ -25,6 +24,7 @@ use Rattle.rows.proofs.Box.{reach_in}
 use Rattle.sweeps.proofs.Runs.{held, run_on, origin, put_put, within_on, within_put, reach_first, reach_far, reach_eq, lies_on, lies_on_not, put_on}
 use Rattle.sweeps.proofs.Backward.{linked_to}
 use Rattle.rows.specs.declared.Between.{Between}
+use Rattle.std.specs.Prelude.{Some}
 
 module _ (m : Map) (s e : Place) (s_in : Inside m.sizes s) (e_in : Inside m.sizes e) where
   abbrev g : Between
@@ -38,14 +38,14 @@ module _ (m : Map) (s e : Place) (s_in : Inside m.sizes s) (e_in : Inside m.size
 
   -- a preferred step from a node of the box leads to a node of the box, one step farther
   step_on : (t : Place) → Within g t → (a : Axis) → on t a < (run_on g a).steps
-      → next m.sizes (reach g t) (along a (run_on g a).down) ≡ At (reach g (put a t (on t a + 1)))
+      → next m.sizes (reach g t) (along a (run_on g a).down) ≡ Some (reach g (put a t (on t a + 1)))
   step_on t w a h =
       let p : T (preferred (reach g t) e (along a (run_on g a).down)) = rw (wanted_on t w a) (lt→ltb (on t a) (run_on g a).steps h) in
       let (q, k) = preferred_next m.sizes (reach g t) e (node_in t w) e_in (along a (run_on g a).down) p in
       let (r, f) = led m.sizes (reach g t) (node_in t w) a (run_on g a).down q k in
-      k ∙ ap At (f ∙ put_on s e t w a h)
+      k ∙ ap Some (f ∙ put_on s e t w a h)
 
-  hop_on : (t r : Place) (j : ℕ) → Within g t → next m.sizes (reach g t) j ≡ At r → T (preferred (reach g t) e j)
+  hop_on : (t r : Place) (j : ℕ) → Within g t → next m.sizes (reach g t) j ≡ Some r → T (preferred (reach g t) e j)
       → (a : Axis) × (on t a < (run_on g a).steps) × (r ≡ reach g (put a t (on t a + 1)))
   hop_on t r j w h p =
       let (a, d, k, l) = preferred_read (reach g t) e j p in
@@ -102,7 +102,7 @@ module _ (m : Map) (s e : Place) (s_in : Inside m.sizes s) (e_in : Inside m.size
         let t' : Place = put a t (on t a - 1) in
         let w' : Within g t' = within_put g t w a (on t a - 1) (less (on t a) (within_on g t w a)) in
         let c : on t' a < (run_on g a).steps = rw (on_put a t (on t a - 1)) (down (on t a) z (within_on g t w a)) in
-        let n : next m.sizes (reach g t') (along a (run_on g a).down) ≡ At (reach g t) = step_on t' w' a c ∙ ap (λ (t : Place). At (reach g t)) (after a t z) in
+        let n : next m.sizes (reach g t') (along a (run_on g a).down) ≡ Some (reach g t) = step_on t' w' a c ∙ ap (λ (t : Place). Some (reach g t)) (after a t z) in
         let q : T (preferred (reach g t') e (along a (run_on g a).down)) = rw (wanted_on t' w' a) (lt→ltb (on t' a) (run_on g a).steps c) in
         reached_on m e s s_in (reach g t') (reach g t) (along a (run_on g a).down) u n
         ((may_hop_iff m e (reach g t') (along a (run_on g a).down) (reach g t)).1 (q, linked_to m (reach g t') (reach g t) (along a (run_on g a).down) n, k)),

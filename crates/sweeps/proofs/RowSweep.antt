@@ -218,13 +218,6 @@ way_seen rows left a x b y i j v h = split (ltb 0 left) refl
     split true f = let (e, q, k) = h (ltb-true 0 left f) in rw (e, q) k
     split false f = refl
 
-pub seen_left : (rows : List ℕ) (left a x b y : ℕ) → bit (seen_at rows left a x b y) ≡ 1 → 0 < left
-seen_left rows left a x b y = split (ltb 0 left) refl
-  where
-    split : (t : Bool) → ltb 0 left ≡ t → bit (t && bit_at (get_or rows (b - y) 0) (a - x)) ≡ 1 → 0 < left
-    split true f h = ltb-true 0 left f
-    split false f h = absurd (omega arith)
-
 pub rows_ways : (g : Between) (c : ℕ) (seen : Place → Bool) (old new : List ℕ) → Holds g (prior seen c) old → Holds g (prior seen (c + 1)) new
     → let a = g.x.steps in let b = g.y.steps in
     ◌≡◌ {A = Ways} (record { x = bit (seen_at new a a 1 b 0); y = bit (seen_at new b a 0 b 1); z = bit (seen_at old c a 0 b 0) }) (ways_of seen (place a b c))

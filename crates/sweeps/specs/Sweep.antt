@@ -1,13 +1,11 @@
 -- The sweep over a box, layer by layer from its first corner, a row of a layer as one number: what the functions of src/ leave in their rows. No promise is
 -- stated in these words: what it means for paths that a node is seen is proved (proofs/Backward, proofs/Forward). Assumes nothing.
-use Rattle.std.specs.Prelude.{◌≡◌, Bool, true, cond, ◌&&◌, ◌||◌, List, ℕ, zero, suc, ◌+◌, ◌-◌, ◌*◌, ◌^◌, ◌<◌, ◌≤◌, length, get_or, set, replicate, T, ltb, eqb}
+use Rattle.std.specs.Prelude.{◌≡◌, Bool, true, cond, ◌&&◌, ◌||◌, List, ℕ, zero, suc, ◌+◌, ◌-◌, ◌*◌, ◌^◌, ◌<◌, ◌≤◌, length, get_or, set, replicate, T, ltb, eqb, Some, None, Option}
 use Rattle.mesh.specs.Tools.{bit}
 use Rattle.mesh.specs.Mesh.{Axis, X, Y, Z, on, InRange, Inside, place, nodes}
 use Rattle.mesh.specs.Cells.{Map, map_of, cell_at, may_pass, may_end}
 use Rattle.mesh.specs.declared.Sizes.{Sizes}
 use Rattle.mesh.specs.declared.Place.{Place}
-use Rattle.paths.specs.declared.Wanted.{Wanted}
-use Rattle.paths.specs.declared.Wanted.TheVariants.{Way, Level}
 use Rattle.rows.specs.Row.{bit_at}
 use Rattle.rows.specs.Box.{largest, reach, far, Within, Good}
 use Rattle.rows.specs.declared.Between.{Between}
@@ -107,6 +105,6 @@ pub record Ends (S : Sizes) (cells : List ℕ) (p e : Place) : Type 0 where
   pub end_may : T (may_end (cell_at (map_of S cells) e))
 
 -- the bit of a preferred direction, if the way is seen
-abbrev pub flag_of : Wanted → ℕ → ℕ
-flag_of (Way j) seen = seen * 2 ^ j
-flag_of Level seen = 0
+abbrev pub flag_of : Option ℕ → ℕ → ℕ
+flag_of (Some j) seen = seen * 2 ^ j
+flag_of None seen = 0

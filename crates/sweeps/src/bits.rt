@@ -18,13 +18,11 @@ fn sweep_rows(g: Between, c: usize, faulty: &[u16], rows: &mut [u16])
     let all = full(g.x.steps + 1);
     let mut first = (c == 0) as u16;
     let mut last: u16 = 0;
-    let mut b = 0;
-    while b < n {
-        let pass = (all - faulty[b]) | first;
+    for (b, &dead) in faulty[..n].iter().enumerate() {
+        let pass = (all - dead) | first;
         last = sweep_row(pass, last | rows[b], pass);
         rows[b] = last;
         first = 0;
-        b += 1;
     }
 }
 

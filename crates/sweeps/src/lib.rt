@@ -7,7 +7,7 @@ pub mod offers;
 pub mod signed;
 
 // On each axis, 1 if the node one step nearer to the corner where a sweep began is there and seen, else 0.
-#[derive(Clone, Copy)]
+#[derive(Clone, Copy, Debug, PartialEq, Eq, Hash)]
 pub struct Ways {
     pub x: u8,
     pub y: u8,

@@ -7,7 +7,6 @@ ghost use Rattle.paths.specs.Differences.{wanted, hops};
 ghost use Rattle.rows.specs.Box.{largest};
 
 use mesh::Place;
-use paths::Wanted;
 
 // The coordinate `to` less the coordinate `from`.
 pub(crate) fn difference(from: usize, to: usize) -> i32
@@ -26,17 +25,17 @@ pub(crate) fn size(d: i32) -> usize
 }
 
 // The direction that lowers a difference: `up` or the one after it, or none.
-pub(crate) fn way(up: usize, d: i32) -> Wanted
+pub(crate) fn way(up: usize, d: i32) -> Option<usize>
     requires { (up < 5) × (mag d < 16) }
     ensures { result ≡ wanted up d }
 {
     if d > 0 {
-        return Wanted::Way(up);
+        return Some(up);
     }
     if d < 0 {
-        return Wanted::Way(up + 1);
+        return Some(up + 1);
     }
-    Wanted::Level
+    None
 }
 
 // The sum of the sizes.

@@ -11,12 +11,9 @@ use lib.ListN.{get_or, length}
 use Rattle.mesh.specs.Mesh.{in_range, nodes}
 use Rattle.mesh.specs.Cells.{Map, state_length}
 use Rattle.rules.specs.Marks.{is_word, rule_byte}
-use Rattle.mesh.specs.Answers.{answer_no, granted, ◌and_then◌, unless, check_map, check_orientation, check_node, check_direction}
+use Rattle.mesh.specs.Answers.{answer_no, granted, ◌and_then◌, unless, check_map, check_orientation, check_node, check_direction, accepted, Answer}
 use Rattle.mesh.specs.declared.Sizes.{Sizes}
 use Rattle.mesh.specs.declared.Refusal.{Refusal}
-use Rattle.mesh.specs.declared.Answer.{Answer}
-use Rattle.mesh.specs.declared.Answer.TheVariants.{Done, Refused}
-use Rattle.mesh.specs.declared.Numbered.TheVariants.{Number}
 use Rattle.mesh.proofs.Tests.{T-and, T-eq, T-le, tried}
 use Rattle.mesh.proofs.Answers.{kept}
 use Rattle.mesh.proofs.Order.{done_of, refused_of}
@@ -29,6 +26,7 @@ use Rattle.talk.proofs.Same.{on_sound, pair_in, outstanding_in}
 use Rattle.talk.proofs.Rule.{ruled_same}
 use Rattle.talk.proofs.State.{pair_talks, dir_lt_six}
 use Rattle.talk.proofs.Hear.{others_kept, heard_new, own_new, nothing_new}
+use Rattle.std.specs.Prelude.{Ok, Err}
 
 -- ---- what is lent, by the number of the answer
 
@@ -40,34 +38,34 @@ unchanged a new old n = let (r, e) = refused_of a n in kept a r new old e
 
 -- ---- a call is granted exactly where each check is passed
 
-both : (a b : Answer) → (a and_then b ≡ Done) ↔ ((a ≡ Done) × (b ≡ Done))
-both Done b = (λ e. (refl, e), λ e. e.1)
-both (Refused r) b = (λ e. let z : ◌≡◌ {A = ℕ} 0 1 = cc in absurd (omega arith), λ e. e.0)
+both : (a b : Answer) → (a and_then b ≡ accepted) ↔ ((a ≡ accepted) × (b ≡ accepted))
+both (Ok _) b = (λ e. (refl, e), λ e. e.1)
+both (Err r) b = (λ e. let z : ◌≡◌ {A = ℕ} 0 1 = cc in absurd (omega arith), λ e. e.0)
 
-passed : (t : Bool) (r : Refusal) → (unless t r ≡ Done) ↔ T t
+passed : (t : Bool) (r : Refusal) → (unless t r ≡ accepted) ↔ T t
 passed true r = (λ e. tt, λ t. refl)
 passed false r = (λ e. let z : ◌≡◌ {A = ℕ} 0 1 = cc in absurd (omega arith), λ t. absurd t)
 
-pub state_passed : (S : Sizes) (n : ℕ) → (check_state S n ≡ Done) ↔ (T (in_range S) × (n ≡ state_length S))
+pub state_passed : (S : Sizes) (n : ℕ) → (check_state S n ≡ accepted) ↔ (T (in_range S) × (n ≡ state_length S))
 unfolding check_state
 state_passed S n = simp (check_state, both, passed, T-eq) (λ x. x, λ x. x)
 
 pub numbers_passed : (S : Sizes) (n o k j w : ℕ)
-    → (check_state S n and_then check_orientation o and_then check_node S k and_then check_direction j and_then check_word w ≡ Done)
+    → (check_state S n and_then check_orientation o and_then check_node S k and_then check_direction j and_then check_word w ≡ accepted)
     ↔ (((((T (in_range S) × (n ≡ state_length S)) × (o ≤ 7)) × (k < nodes S)) × (j ≤ 5)) × T (is_word w))
 numbers_passed S n o k j w = simp (state_passed, both, passed, T-le) (λ x. x, λ x. x)
 
-pub fresh_passed : (S : Sizes) (cells : List ℕ) (o n : ℕ) → (fresh_answer S cells o n ≡ Done)
-    ↔ (((T (in_range S) × (n ≡ state_length S)) × (check_map S cells ≡ Done)) × (o ≤ 7))
+pub fresh_passed : (S : Sizes) (cells : List ℕ) (o n : ℕ) → (fresh_answer S cells o n ≡ accepted)
+    ↔ (((T (in_range S) × (n ≡ state_length S)) × (check_map S cells ≡ accepted)) × (o ≤ 7))
 unfolding fresh_answer
 fresh_passed S cells o n = simp (fresh_answer, state_passed, both, passed, T-le) (λ x. x, λ x. x)
 
-pub sound_passed : (S : Sizes) (o : ℕ) (s : List ℕ) → (sound_answer S o s ≡ Done)
+pub sound_passed : (S : Sizes) (o : ℕ) (s : List ℕ) → (sound_answer S o s ≡ accepted)
     ↔ (((T (in_range S) × (length s ≡ state_length S)) × (o ≤ 7)) × Sound S o s)
 unfolding sound_answer
 sound_passed S o s = simp (sound_answer, state_passed, both, passed, T-le, sound_iff) (λ x. x, λ x. x)
 
-pub hear_passed : (S : Sizes) (o k j w : ℕ) (s : List ℕ) → (hear_answer S o k j w s ≡ Done)
+pub hear_passed : (S : Sizes) (o k j w : ℕ) (s : List ℕ) → (hear_answer S o k j w s ≡ accepted)
     ↔ ((((((((T (in_range S) × (length s ≡ state_length S)) × (o ≤ 7)) × (k < nodes S)) × (j ≤ 5)) × T (is_word w)) × Sound S o s)
     × T (pair (map_in S s) k j))
     × (w no_more_than says S s k j))
@@ -76,29 +74,29 @@ hear_passed S o k j w s = simp (hear_answer, state_passed, both, passed, T-le, s
 
 -- a call of `hear` is granted or changes nothing
 granted_or_not : (S : Sizes) (o k j w : ℕ) (s : List ℕ)
-    → ((hear_answer S o k j w s ≡ Done) × (hear_out S o k j w s ≡ changed S o k j w s)) ⊎ (hear_out S o k j w s ≡ s)
+    → ((hear_answer S o k j w s ≡ accepted) × (hear_out S o k j w s ≡ changed S o k j w s)) ⊎ (hear_out S o k j w s ≡ s)
 granted_or_not S o k j w s = go (hear_answer S o k j w s)
   where
-    go : (a : Answer) → ((a ≡ Done) × (granted a (changed S o k j w s) s ≡ changed S o k j w s)) ⊎ (granted a (changed S o k j w s) s ≡ s)
-    go Done = inl (refl, refl)
-    go (Refused r) = inr refl
+    go : (a : Answer) → ((a ≡ accepted) × (granted a (changed S o k j w s) s ≡ changed S o k j w s)) ⊎ (granted a (changed S o k j w s) s ≡ s)
+    go (Ok _) = inl (refl, refl)
+    go (Err r) = inr refl
 
 -- "No other byte changes."
 pub alone : (S : Sizes) (o k j w : ℕ) (s : List ℕ) (i : ℕ) → i ≢ 7 * k → i ≢ 7 * k + 1 + j → get_or (hear_out S o k j w s) i 0 ≡ get_or s i 0
 alone S o k j w s i n h = elim (granted_or_not S o k j w s) [ inl e ↦ rw e.1 (others_kept S o s k j w i n h) | inr e ↦ rw e ]
 
 -- granted at two states in which the listener holds the same seven bytes, a word leaves it the same seven
-pub itself : (S : Sizes) (o k j w : ℕ) (s t : List ℕ) → hear_answer S o k j w s ≡ Done → hear_answer S o k j w t ≡ Done
+pub itself : (S : Sizes) (o k j w : ℕ) (s t : List ℕ) → hear_answer S o k j w s ≡ accepted → hear_answer S o k j w t ≡ accepted
     → SameAt k s t → SameAt k (hear_out S o k j w s) (hear_out S o k j w t)
 itself S o k j w s t a b e = rw (a, b) (own_same, heard_same)
   where
-    fits : (u : List ℕ) → hear_answer S o k j w u ≡ Done → (length u ≡ state_length S) × (k < nodes S) × (j < 6)
+    fits : (u : List ℕ) → hear_answer S o k j w u ≡ accepted → (length u ≡ state_length S) × (k < nodes S) × (j < 6)
     fits u d = let q = ((hear_passed S o k j w u).0 d).0.0.0.0 in (q.0.0.0.1, q.0.1, omega arith)
 
-    new : (u : List ℕ) → hear_answer S o k j w u ≡ Done → heard (changed S o k j w u) k j ≡ add_marks (heard u k j) w
+    new : (u : List ℕ) → hear_answer S o k j w u ≡ accepted → heard (changed S o k j w u) k j ≡ add_marks (heard u k j) w
     new u d = let (n, l, h) = fits u d in heard_new S o u k j w n l h
 
-    rules : (u : List ℕ) → hear_answer S o k j w u ≡ Done → own (changed S o k j w u) k ≡ rule_byte S o (heard (changed S o k j w u) k)
+    rules : (u : List ℕ) → hear_answer S o k j w u ≡ accepted → own (changed S o k j w u) k ≡ rule_byte S o (heard (changed S o k j w u) k)
     rules u d = let (n, l, h) = fits u d in own_new S o u k j w n l h
 
     heard_same : (i : ℕ) → i < 6 → heard (changed S o k j w s) k i ≡ heard (changed S o k j w t) k i
@@ -115,7 +113,7 @@ itself S o k j w s t a b e = rw (a, b) (own_same, heard_same)
 
 module _ (m : Map) (o : ℕ) (fit : T (in_range m.sizes)) (o_le : o ≤ 7) (s : List ℕ) (z : SoundOn m o s) where
   -- a word that the speaker holds is granted
-  pub takes : (k j w : ℕ) → T (pair m k j) → T (is_word w) → w no_more_than says m.sizes s k j → hear_answer m.sizes o k j w s ≡ Done
+  pub takes : (k j w : ℕ) → T (pair m k j) → T (is_word w) → w no_more_than says m.sizes s k j → hear_answer m.sizes o k j w s ≡ accepted
   takes k j w t v f =
       let r = pair_talks m k j t in
       let h : j ≤ 5 = omega (arith, dir_lt_six m k j r) in
@@ -128,7 +126,7 @@ module _ (m : Map) (o : ℕ) (fit : T (in_range m.sizes)) (o_le : o ≤ 7) (s : 
 
   -- and changes nothing where it is late
   pub late : (k j w : ℕ) → T (pair m k j) → T (is_word w) → w no_more_than heard s k j
-      → (hear_answer m.sizes o k j w s ≡ Done) × (hear_out m.sizes o k j w s ≡ s)
+      → (hear_answer m.sizes o k j w s ≡ accepted) × (hear_out m.sizes o k j w s ≡ s)
   late k j w t v f =
       let r = pair_talks m k j t in
       let (word, held) = z.words k j t in
@@ -156,6 +154,6 @@ module _ (m : Map) (o : ℕ) (fit : T (in_range m.sizes)) (o_le : o ≤ 7) (s : 
   ]
 
   -- the number outstanding is exact
-  pub counts : outstanding_answer m.sizes o s ≡ Number (outstanding_on m s)
+  pub counts : outstanding_answer m.sizes o s ≡ Ok (outstanding_on m s)
   unfolding outstanding_answer
   counts = rw ((sound_passed m.sizes o s).1 (((fit, z.long), o_le), on_sound m o s z), outstanding_in m o s z)

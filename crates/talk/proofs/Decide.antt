@@ -12,14 +12,12 @@ use Rattle.mesh.specs.Cells.{Map, wall, state_length}
 use Rattle.rules.specs.Marks.{useless, cant_reach, has, rule_byte, is_word}
 use Rattle.mesh.specs.declared.Sizes.{Sizes}
 use Rattle.mesh.specs.declared.Place.{Place}
-use Rattle.mesh.specs.declared.Next.{Next}
-use Rattle.mesh.specs.declared.Next.TheVariants.{At, Edge}
 use Rattle.mesh.proofs.Steps.{dir_led}
 use Rattle.mesh.proofs.Tests.{T-and, T-implies, T-cond, T-all, T-eq}
 use Rattle.talk.specs.State.{own, heard, map_in, faulty_node, works_node}
-use Rattle.talk.specs.Sound.{within, ◌no_more_than◌, faulty_hears, heard_right, working_right, faulty_right, node_right}
-use Rattle.talk.specs.Sound.{sound_on, sound, SoundOn, Sound}
+use Rattle.talk.specs.Sound.{within, ◌no_more_than◌, faulty_hears, heard_right, working_right, faulty_right, node_right, sound_on, sound, SoundOn, Sound}
 use Rattle.talk.proofs.State.{Talks, pair_talks, talks_pair, speaker_is}
+use Rattle.std.specs.Prelude.{Some, None, Option}
 
 pub within_iff : (v w : ℕ) → T (within v w) ↔ (v no_more_than w)
 unfolding within
@@ -31,11 +29,11 @@ within_iff v w = (
 )
 
 module _ (m : Map) (o : ℕ) (s : List ℕ) where
-  abbrev to : ℕ → ℕ → Next
+  abbrev to : ℕ → ℕ → Option Place
   to k j = next m.sizes (place_of m.sizes k) j
 
   -- one byte heard
-  at_iff : (k j : ℕ) (q : Place) → T (heard_right m s k j (At q))
+  at_iff : (k j : ℕ) (q : Place) → T (heard_right m s k j (Some q))
       ↔ ((T (wall m (place_of m.sizes k) j q) → heard s k j ≡ 1)
       × (T (not (wall m (place_of m.sizes k) j q)) → T (is_word (heard s k j)) × (heard s k j no_more_than own s (number m.sizes q))))
   at_iff k j q = simp (T-cond, T-and, T-eq, within_iff) (λ x. x, λ x. x)
@@ -60,9 +58,9 @@ module _ (m : Map) (o : ℕ) (s : List ℕ) where
   heard_of : SoundOn m o s → (k j : ℕ) → k < nodes m.sizes → T (works_node m k) → j < 6 → T (heard_right m s k j (to k j))
   heard_of z k j l w h = go (to k j) refl
     where
-      go : (n : Next) → to k j ≡ n → T (heard_right m s k j n)
-      go Edge e = (T-eq (heard s k j) 8).1 (z.edge k j l w h e)
-      go (At q) e = (at_iff k j q).1 (
+      go : (n : Option Place) → to k j ≡ n → T (heard_right m s k j n)
+      go None e = (T-eq (heard s k j) 8).1 (z.edge k j l w h e)
+      go (Some q) e = (at_iff k j q).1 (
         z.walled k j q l w e,
         λ f.
             let t : Talks m k j = record { lt = l; works_k = w; speaker = q; there = e; free = f } in
@@ -74,7 +72,7 @@ module _ (m : Map) (o : ℕ) (s : List ℕ) where
         → (own s k ≡ rule_byte m.sizes o (heard s k)) × ((j : ℕ) → j < 6 → T (heard_right m s k j (to k j)))
     working k l w = (working_iff k).0 (((node_iff k).0 (right k l)).1 w)
 
-    leads : (k j : ℕ) (q : Place) → k < nodes m.sizes → T (works_node m k) → to k j ≡ At q → T (heard_right m s k j (At q))
+    leads : (k j : ℕ) (q : Place) → k < nodes m.sizes → T (works_node m k) → to k j ≡ Some q → T (heard_right m s k j (Some q))
     leads k j q l w e = rw e at ((working k l w).1 j (dir_led m.sizes (place_of m.sizes k) q j e))
 
     sound_of : SoundOn m o s

@@ -9,18 +9,14 @@ use lib.Dec.{T, eqb, leb, ltb}
 use lib.ListN.{length}
 use Rattle.mesh.specs.Mesh.{InRange, nodes}
 use Rattle.mesh.specs.Cells.{map_of, state_length}
-use Rattle.mesh.specs.Answers.{refusal_no, answer_no, answer_bad, numbered, numbered_no, numbered_bad, numbered_value}
-use Rattle.mesh.specs.Answers.{◌and_then◌, unless, check_sizes, check_map, check_orientation}
+use Rattle.mesh.specs.Answers.{refusal_no, answer_no, answer_bad, answered, numbered_value, accepted, Answer, ◌and_then◌, unless, check_sizes, check_map, check_orientation}
 use Rattle.mesh.specs.Order.{Check, ◌else◌, ◌give◌, NoneBad, NamesBad, map_checks}
 use Rattle.rules.specs.Marks.{is_word}
 use Rattle.mesh.specs.declared.Sizes.{Sizes}
 use Rattle.mesh.specs.declared.Refusal.{Refusal}
 use Rattle.mesh.specs.declared.Refusal.TheVariants.{BadLength, BadNumber, Unsound, NoPair, NotHeld}
-use Rattle.mesh.specs.declared.Answer.{Answer}
-use Rattle.mesh.specs.declared.Answer.TheVariants.{Done, Refused}
 use Rattle.mesh.proofs.Tests.{T-eq, T-le, T-lt}
-use Rattle.mesh.proofs.Order.{not_given, ◌decide◌, gives, decides_then, decides_by, sizes_decided, orientation_decided, map_decided}
-use Rattle.mesh.proofs.Order.{no_cell, bad_then, bad_after, bad_sizes, bad_map, not_zero, done_of}
+use Rattle.mesh.proofs.Order.{not_given, ◌decide◌, gives, decides_then, decides_by, sizes_decided, orientation_decided, map_decided, no_cell, bad_then, bad_after, bad_sizes, bad_map, not_zero, done_of}
 use Rattle.talk.specs.State.{heard, map_in, pair, says}
 use Rattle.talk.specs.Sound.{within, sound, fresh}
 use Rattle.talk.specs.Hear.{changed, outstanding}
@@ -30,6 +26,7 @@ use Rattle.talk.proofs.Decide.{within_iff, sound_iff}
 use Rattle.talk.proofs.Hear.{added_marks, added_word, others_kept, long_kept, heard_new, own_new}
 use Rattle.talk.proofs.Calls.{written, unchanged, hear_passed}
 use Rattle.talk.proofs.Promise.{made_promise}
+use Rattle.std.specs.Prelude.{Ok, Err}
 
 -- ---- the order of the checks
 
@@ -91,8 +88,8 @@ hear_decided S o k j w s =
 -- ---- the bad cell
 
 none_named : (a : Answer) → answer_no a ≢ 4 → answer_bad a ≡ 0
-none_named Done n = refl
-none_named (Refused r) n = no_cell r n
+none_named (Ok _) n = refl
+none_named (Err r) n = no_cell r n
 
 fresh_bad : (S : Sizes) (cells : List ℕ) (o n : ℕ) → NamesBad S cells (answer_no (fresh_answer S cells o n)) (answer_bad (fresh_answer S cells o n))
 unfolding fresh_answer check_state
@@ -124,16 +121,16 @@ sound_call S o s =
     record { order = order; no_bad = none_named a (not_given (sound_checks S o s) (answer_no a) 4 tt (λ e. omega arith) order) }
 
 pub outstanding_call : (S : Sizes) (o : ℕ) (s : List ℕ)
-    → let a = outstanding_answer S o s in OutstandingCall S o s (numbered_no a) (numbered_bad a) (numbered_value a)
+    → let a = outstanding_answer S o s in OutstandingCall S o s (answer_no a) (answer_bad a) (numbered_value a)
 unfolding outstanding_answer
 outstanding_call S o s = go (sound_answer S o s) (sound_call S o s)
   where
     go : (a : Answer) → SoundCall S o s (answer_no a) (answer_bad a)
-        → let n = numbered a (outstanding S s) in OutstandingCall S o s (numbered_no n) (numbered_bad n) (numbered_value n)
-    go Done c = record { order = c.order; no_bad = refl; granted = λ _. refl; nothing = λ n. absurd (n refl) }
-    go (Refused r) c = record { order = c.order; no_bad = c.no_bad; granted = λ e. absurd (not_zero r e); nothing = λ _. refl }
+        → let n = answered a (outstanding S s) in OutstandingCall S o s (answer_no n) (answer_bad n) (numbered_value n)
+    go (Ok _) c = record { order = c.order; no_bad = refl; granted = λ _. refl; nothing = λ n. absurd (n refl) }
+    go (Err r) c = record { order = c.order; no_bad = c.no_bad; granted = λ e. absurd (not_zero r e); nothing = λ _. refl }
 
-word_heard : (S : Sizes) (o k j w : ℕ) (s : List ℕ) → hear_answer S o k j w s ≡ Done → WordHeard S o k j w s (changed S o k j w s)
+word_heard : (S : Sizes) (o k j w : ℕ) (s : List ℕ) → hear_answer S o k j w s ≡ accepted → WordHeard S o k j w s (changed S o k j w s)
 word_heard S o k j w s d =
     let q = ((hear_passed S o k j w s).0 d).0.0.0.0 in
     let l = q.0.0.0.1 in

@@ -13,8 +13,6 @@ use Rattle.mesh.specs.Cells.{Map, works, wall}
 use Rattle.rules.specs.Marks.{Kind, heading, holds, has, is_word, rule, blocks, marked, mark_at, byte_blocks, rule_byte, read_by, read_at}
 use Rattle.mesh.specs.declared.Sizes.{Sizes}
 use Rattle.mesh.specs.declared.Place.{Place}
-use Rattle.mesh.specs.declared.Next.{Next}
-use Rattle.mesh.specs.declared.Next.TheVariants.{At, Edge}
 use Rattle.mesh.proofs.Tests.{T-and, tried, cond_true, cond_false}
 use Rattle.mesh.proofs.Tables.{sum_part}
 use Rattle.mesh.proofs.Numbers.{number_lt, number_of, place_in, place_of_lem}
@@ -27,6 +25,7 @@ use Rattle.talk.specs.Hear.{news, outstanding_on}
 use Rattle.talk.proofs.State.{faulty_place, Talks, pair_talks, talks_pair, dir_lt_six, speaker_is, speaker_lt, speaker_works}
 use Rattle.talk.proofs.Same.{works_word}
 use Rattle.talk.proofs.Rule.{word_blocks, ruled_same, ruled_grows}
+use Rattle.std.specs.Prelude.{Some, None, Option}
 
 -- a pair counts as news exactly if its two bytes differ
 no_news : (a : Bool) (v w : ℕ) → bit (a && not (eqb v w)) ≡ 0 → T a → v ≡ w
@@ -53,9 +52,9 @@ module _ (m : Map) (o : ℕ) (s : List ℕ) (z : SoundOn m o s) where
       → (heard s k j ≡ read_at m bytes (p k) j) ⊎ (T (pair m k j) × (read_at m bytes (p k) j ≡ says S s k j))
   reads k j l w h = go (next S (p k) j) refl
     where
-      go : (n : Next) → next S (p k) j ≡ n → (heard s k j ≡ read_at m bytes (p k) j) ⊎ (T (pair m k j) × (read_at m bytes (p k) j ≡ says S s k j))
-      go Edge e = inl (z.edge k j l w h e ∙ sym (ap (read_by m bytes (p k) j) e))
-      go (At q) e = elim (tried (wall m (p k) j q)) [
+      go : (n : Option Place) → next S (p k) j ≡ n → (heard s k j ≡ read_at m bytes (p k) j) ⊎ (T (pair m k j) × (read_at m bytes (p k) j ≡ says S s k j))
+      go None e = inl (z.edge k j l w h e ∙ sym (ap (read_by m bytes (p k) j) e))
+      go (Some q) e = elim (tried (wall m (p k) j q)) [
         | inl b ↦ inl (z.walled k j q l w e b ∙ sym (ap (read_by m bytes (p k) j) e ∙ cond_true (wall m (p k) j q) 1 (bytes q) b))
         | inr f ↦
             let t : Talks m k j = record { lt = l; works_k = w; speaker = q; there = e; free = f } in
@@ -69,7 +68,7 @@ module _ (m : Map) (o : ℕ) (s : List ℕ) (z : SoundOn m o s) where
   -- ---- no mark too many
 
   module _ (k : ℕ) (l : k < nodes S) (w : T (works_node m k)) where
-    words_near : (j : ℕ) (q : Place) → next S (p k) j ≡ At q → T (not (wall m (p k) j q)) → T (is_word (bytes q))
+    words_near : (j : ℕ) (q : Place) → next S (p k) j ≡ Some q → T (not (wall m (p k) j q)) → T (is_word (bytes q))
     words_near j q e f =
         let t : Talks m k j = record { lt = l; works_k = w; speaker = q; there = e; free = f } in
         rw (speaker_is m k j t) at (works_word m o s z (neighbour S k j) (speaker_lt m k j t) (speaker_works m k j t))

@@ -10,8 +10,6 @@ use Rattle.mesh.specs.Steps.{next}
 use Rattle.mesh.specs.Cells.{Map, works, wall, state_length}
 use Rattle.rules.specs.Marks.{useless, cant_reach, heading, has, byte_of, is_word, rule, blocks, marked, stuck_within, rule_byte, read_by, read_at}
 use Rattle.mesh.specs.declared.Place.{Place}
-use Rattle.mesh.specs.declared.Next.{Next}
-use Rattle.mesh.specs.declared.Next.TheVariants.{At, Edge}
 use Rattle.mesh.proofs.Tests.{cond_true, cond_false, holds_true}
 use Rattle.mesh.proofs.Tables.{length_table, get_d_table}
 use Rattle.mesh.proofs.Steps.{dir_led}
@@ -22,6 +20,7 @@ use Rattle.talk.specs.Promise.{FreshPromise}
 use Rattle.talk.proofs.State.{pair_talks, dir_lt_six}
 use Rattle.talk.proofs.Rule.{ruled_same}
 use Rattle.talk.proofs.Same.{on_state, on_sound}
+use Rattle.std.specs.Prelude.{Some, None, Option}
 
 none_within : (b : ℕ) → 0 no_more_than b
 unfolding has
@@ -58,7 +57,7 @@ module _ (m : Map) (o : ℕ) where
     unfolding fresh_heard
     reads j h = fresh_heard_lem k j l h ∙ cond_false (faulty_node m k) (faulty_hears m (p k) j) (read_at m (λ q. 0) (p k) j) w
 
-    leads : (j : ℕ) (n : Next) → j < 6 → next m.sizes (p k) j ≡ n → heard s k j ≡ read_by m (λ q. 0) (p k) j n
+    leads : (j : ℕ) (n : Option Place) → j < 6 → next m.sizes (p k) j ≡ n → heard s k j ≡ read_by m (λ q. 0) (p k) j n
     leads j n h e = reads j h ∙ ap (read_by m (λ q. 0) (p k) j) e
 
     rules : own s k ≡ rule_byte m.sizes o (fresh_heard m k)
@@ -79,7 +78,7 @@ module _ (m : Map) (o : ℕ) where
   silent : (k j : ℕ) → T (pair m k j) → heard s k j ≡ 0
   silent k j t =
       let r = pair_talks m k j t in
-      leads k r.lt r.works_k j (At r.speaker) (dir_lt_six m k j r) r.there ∙ cond_false (wall m (p k) j r.speaker) 1 0 r.free
+      leads k r.lt r.works_k j (Some r.speaker) (dir_lt_six m k j r) r.there ∙ cond_false (wall m (p k) j r.speaker) 1 0 r.free
 
   pub fresh_sound : SoundOn m o s
   unfolding fresh fresh_own fresh_heard is_word
@@ -90,8 +89,8 @@ module _ (m : Map) (o : ℕ) where
       λ j h. fresh_heard_lem k j l h ∙ cond_true (faulty_node m k) (faulty_hears m (p k) j) (read_at m (λ q. 0) (p k) j) f,
     );
     ruled = λ k l w. rules k l w ∙ ruled_same m.sizes o (fresh_heard m k) (heard s k) (λ j h. sym (fresh_heard_lem k j l h));
-    edge = λ k j l w h e. leads k l w j Edge h e;
-    walled = λ k j q l w e b. leads k l w j (At q) (dir_led m.sizes (p k) q j e) e ∙ cond_true (wall m (p k) j q) 1 0 b;
+    edge = λ k j l w h e. leads k l w j None h e;
+    walled = λ k j q l w e b. leads k l w j (Some q) (dir_led m.sizes (p k) q j e) e ∙ cond_true (wall m (p k) j q) 1 0 b;
     words = λ k j t. rw (silent k j t) (tt, none_within (says m.sizes s k j));
   }
 

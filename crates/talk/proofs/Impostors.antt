@@ -11,7 +11,7 @@ use lib.Dec.{T}
 use lib.ListN.{length, replicate}
 use Rattle.mesh.specs.Mesh.{sizes, nodes, place_of}
 use Rattle.mesh.specs.Cells.{Map, map_of}
-use Rattle.mesh.specs.Answers.{answer_no, answer_bad, numbered_bad}
+use Rattle.mesh.specs.Answers.{answer_no, answer_bad}
 use Rattle.rules.specs.Marks.{heading, byte_of, marked, stuck_within, stuck, mark_at}
 use Rattle.mesh.specs.declared.Sizes.{Sizes}
 use Rattle.mesh.proofs.Tests.{T-and}
@@ -199,7 +199,7 @@ module _ (refusal bad count : Sizes → ℕ → List ℕ → ℕ)
     (meets : (S : Sizes) (o : ℕ) (s : List ℕ) → OutstandingCall S o s (refusal S o s) (bad S o s) (count S o s)) where
   count_is : (S : Sizes) (o : ℕ) (s : List ℕ) → (refusal S o s ≡ count_refusal S o s) × (count S o s ≡ count_of S o s)
   count_is S o s =
-      let (n, _, e) = outstanding_only S o s (refusal S o s) (count_refusal S o s) (bad S o s) (numbered_bad (outstanding_answer S o s))
+      let (n, _, e) = outstanding_only S o s (refusal S o s) (count_refusal S o s) (bad S o s) (answer_bad (outstanding_answer S o s))
       (count S o s) (count_of S o s) (meets S o s) (outstanding_call S o s) in
       (n, e)
 

@@ -11,7 +11,6 @@ use Rattle.mesh.specs.Cells.{Map, wall}
 use Rattle.rules.specs.Marks.{Kind, heading, has, rule, blocks, stuck_within, stuck, byte_blocks, rule_byte}
 use Rattle.mesh.specs.declared.Sizes.{Sizes}
 use Rattle.mesh.specs.declared.Place.{Place}
-use Rattle.mesh.specs.declared.Next.TheVariants.{At}
 use Rattle.mesh.proofs.Tests.{T-or, tried, holds_true}
 use Rattle.mesh.proofs.Numbers.{place_of_lem}
 use Rattle.rules.proofs.Rule.{rule_iff, blocks_read, marked_iff}
@@ -21,6 +20,7 @@ use Rattle.talk.specs.Sound.{SoundOn}
 use Rattle.talk.proofs.State.{Talks, pair_talks, talks_pair, speaker_in, speaker_is, speaker_lt}
 use Rattle.talk.proofs.Later.{Grown}
 use Rattle.talk.proofs.Exact.{no_more}
+use Rattle.std.specs.Prelude.{Some}
 
 module _ (m : Map) (o : ℕ) (a : Kind) where
   abbrev S : Sizes
@@ -33,7 +33,7 @@ module _ (m : Map) (o : ℕ) (a : Kind) where
   -- then what one step more shows of a node is held by it
   module _ (i : ℕ) (s : List ℕ) (z : SoundOn m o s) (h : Shown i s) (k : ℕ) (l : k < nodes S) where
     module _ (w : T (works_node m k)) where
-      by_wall : (j : ℕ) (q : Place) → next S (place_of S k) j ≡ At q → T (wall m (place_of S k) j q) → T (byte_blocks (heard s k j) a)
+      by_wall : (j : ℕ) (q : Place) → next S (place_of S k) j ≡ Some q → T (wall m (place_of S k) j q) → T (byte_blocks (heard s k j) a)
       by_wall j q e x = rw (z.walled k j q l w e x) ((holds_true (byte_blocks 1 a)).1 (one_blocks a))
 
       by_word : (j : ℕ) (t : Talks m k j) → T (stuck_within i m (heading o a) t.speaker) → T (byte_blocks (heard s k j) a)

@@ -7,18 +7,17 @@ use lib.Dec.{T, eqb}
 use borrow.Author.Tests.{lt-ltb}
 use Rattle.mesh.specs.Tools.{bit}
 use Rattle.mesh.specs.Mesh.{nodes, number, place_of, Inside}
-use Rattle.mesh.specs.Steps.{next, is_at, number_at, neighbour}
+use Rattle.mesh.specs.Steps.{next, number_at, neighbour}
 use Rattle.mesh.specs.Cells.{Map, faulty_cell, faulty, wall, linked}
 use Rattle.mesh.specs.declared.Sizes.{Sizes}
 use Rattle.mesh.specs.declared.Place.{Place}
-use Rattle.mesh.specs.declared.Next.{Next}
-use Rattle.mesh.specs.declared.Next.TheVariants.{At, Edge}
 use native.Mathlib.Omega.{arith}
 use Rattle.mesh.proofs.Tests.{T-and, T-no, T-lt, T-eq, bool_ext}
 use Rattle.mesh.proofs.Tables.{get_d_table}
 use Rattle.mesh.proofs.Numbers.{number_of, number_lt, place_in, place_of_lem}
 use Rattle.mesh.proofs.Steps.{next_in, dir_led}
 use Rattle.talk.specs.State.{own, cells_in, map_in, faulty_node, works_node, StateOf, pair, says}
+use Rattle.std.specs.Prelude.{Some, None, Option, is_some}
 
 -- ---- the map that a state tells
 
@@ -58,12 +57,12 @@ pub record Talks (m : Map) (k j : ℕ) : Type 0 where
   pub lt : k < nodes m.sizes
   pub works_k : T (works_node m k)
   pub speaker : Place
-  pub there : next m.sizes (place_of m.sizes k) j ≡ At speaker
+  pub there : next m.sizes (place_of m.sizes k) j ≡ Some speaker
   pub free : T (not (wall m (place_of m.sizes k) j speaker))
 
-at_of : (n : Next) → T (is_at n) → (q : Place) × (n ≡ At q)
-at_of (At q) t = (q, refl)
-at_of Edge t = absurd t
+at_of : (n : Option Place) → T (is_some n) → (q : Place) × (n ≡ Some q)
+at_of (Some q) t = (q, refl)
+at_of None t = absurd t
 
 module _ (m : Map) (k j : ℕ) where
   abbrev p : Place
@@ -101,12 +100,12 @@ module _ (m : Map) (k j : ℕ) where
       record { lt = l; works_k = w; speaker = q; there = e; free = rw (f, faulty_place m q inn) at v }
 
   -- where two talk there is neither the edge nor a wall
-  pub pair_edge : T (pair m k j) → next m.sizes p j ≡ Edge → ⊥
-  pair_edge t e = let h : next m.sizes p j ≡ At (pair_talks t).speaker = (pair_talks t).there in let z : ◌≡◌ {A = ℕ} 0 1 = cc in omega arith
+  pub pair_edge : T (pair m k j) → next m.sizes p j ≡ None → ⊥
+  pair_edge t e = let h : next m.sizes p j ≡ Some (pair_talks t).speaker = (pair_talks t).there in let z : ◌≡◌ {A = ℕ} 0 1 = cc in omega arith
 
-  pub pair_wall : (q : Place) → T (pair m k j) → next m.sizes p j ≡ At q → T (wall m p j q) → ⊥
+  pub pair_wall : (q : Place) → T (pair m k j) → next m.sizes p j ≡ Some q → T (wall m p j q) → ⊥
   pair_wall q t e b =
       let r = pair_talks t in
-      let h : next m.sizes p j ≡ At r.speaker = r.there in
+      let h : next m.sizes p j ≡ Some r.speaker = r.there in
       let f : q ≡ r.speaker = cc in
       (T-no (wall m p j r.speaker)).0 r.free (rw f at b)

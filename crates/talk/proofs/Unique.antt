@@ -13,8 +13,6 @@ use Rattle.mesh.specs.Steps.{next}
 use Rattle.mesh.specs.Cells.{Map, map_of, wall, state_length}
 use Rattle.rules.specs.Marks.{has}
 use Rattle.mesh.specs.declared.Sizes.{Sizes}
-use Rattle.mesh.specs.declared.Next.{Next}
-use Rattle.mesh.specs.declared.Next.TheVariants.{At, Edge}
 use Rattle.mesh.proofs.Tests.{tried, bool_ext}
 use Rattle.mesh.proofs.Order.{one_number, bad_one}
 use Rattle.rules.proofs.Bytes.{word_same}
@@ -25,6 +23,8 @@ use Rattle.talk.specs.Calls.{fresh_checks, FreshCall, sound_checks, SoundCall, O
 use Rattle.talk.proofs.State.{talks_pair}
 use Rattle.talk.proofs.Same.{sound_on}
 use Rattle.talk.proofs.Rule.{ruled_same}
+use Rattle.std.specs.Prelude.{Some, None, Option}
+use Rattle.mesh.specs.declared.Place.{Place}
 
 -- ---- the bytes of a fresh state
 
@@ -50,9 +50,9 @@ module _ (m : Map) (o : ℕ) (s t : List ℕ) (p : FreshPromise m o s) (q : Fres
   heard_one : (k j : ℕ) → k < nodes m.sizes → T (works_node m k) → j < 6 → heard s k j ≡ heard t k j
   heard_one k j l w h = go (next m.sizes (place_of m.sizes k) j) refl
     where
-      go : (n : Next) → next m.sizes (place_of m.sizes k) j ≡ n → heard s k j ≡ heard t k j
-      go Edge e = zs.edge k j l w h e ∙ sym (zt.edge k j l w h e)
-      go (At r) e = elim (tried (wall m (place_of m.sizes k) j r)) [
+      go : (n : Option Place) → next m.sizes (place_of m.sizes k) j ≡ n → heard s k j ≡ heard t k j
+      go None e = zs.edge k j l w h e ∙ sym (zt.edge k j l w h e)
+      go (Some r) e = elim (tried (wall m (place_of m.sizes k) j r)) [
         | inl b ↦ zs.walled k j r l w e b ∙ sym (zt.walled k j r l w e b)
         | inr f ↦
             let x = talks_pair m k j (record { lt = l; works_k = w; speaker = r; there = e; free = f }) in

@@ -1,15 +1,14 @@
 -- The calls on a state: what each answers, and what its state then holds, for every input. Assumes nothing.
-use Rattle.std.specs.Prelude.{List, ℕ, eqb, length}
+use Rattle.std.specs.Prelude.{List, ℕ, eqb, length, Result}
 use Rattle.mesh.specs.Cells.{map_of, state_length}
 use Rattle.rules.specs.Marks.{is_word}
-use Rattle.mesh.specs.Answers.{granted, numbered, ◌and_then◌, unless, check_sizes, check_map, check_orientation, check_node, check_direction}
+use Rattle.mesh.specs.Answers.{granted, answered, ◌and_then◌, unless, check_sizes, check_map, check_orientation, check_node, check_direction, Answer}
 use Rattle.mesh.specs.declared.Sizes.{Sizes}
 use Rattle.mesh.specs.declared.Refusal.TheVariants.{BadLength, BadNumber, Unsound, NoPair, NotHeld}
-use Rattle.mesh.specs.declared.Answer.{Answer}
-use Rattle.mesh.specs.declared.Numbered.{Numbered}
 use Rattle.talk.specs.State.{map_in, pair, says}
 use Rattle.talk.specs.Sound.{within, sound, fresh}
 use Rattle.talk.specs.Hear.{changed, outstanding}
+use Rattle.mesh.specs.declared.Refusal.{Refusal}
 
 -- "a state, the room for a fresh one included, not exactly 7 × N": 1, 2, for a state of so many bytes
 unfoldable pub check_state : Sizes → ℕ → Answer
@@ -28,8 +27,8 @@ unfoldable pub sound_answer : Sizes → ℕ → List ℕ → Answer
 sound_answer S o s = check_state S (length s) and_then check_orientation o and_then unless (sound S o s) Unsound
 
 -- the number of words outstanding: 1, 2, 5, 6
-unfoldable pub outstanding_answer : Sizes → ℕ → List ℕ → Numbered
-outstanding_answer S o s = numbered (sound_answer S o s) (outstanding S s)
+unfoldable pub outstanding_answer : Sizes → ℕ → List ℕ → Result ℕ Refusal
+outstanding_answer S o s = answered (sound_answer S o s) (outstanding S s)
 
 -- hearing the word w at node k from direction j: 1, 2, 5, 6, 7, 8
 abbrev pub check_word : ℕ → Answer

@@ -5,7 +5,7 @@ use Rattle.std.specs.Prelude.{List, ◌≢◌, ◌≡◌, ℕ, ◌+◌, ◌*◌,
 use Rattle.mesh.specs.Tools.{count}
 use Rattle.mesh.specs.Mesh.{nodes, place_of}
 use Rattle.mesh.specs.Cells.{Map}
-use Rattle.mesh.specs.Answers.{answer_no, numbered_no, numbered_value}
+use Rattle.mesh.specs.Answers.{answer_no, numbered_value}
 use Rattle.rules.specs.Marks.{Kind, has, is_word, heading, holds, byte_of, stuck_within, mark_at}
 use Rattle.mesh.specs.declared.Sizes.{Sizes}
 use Rattle.talk.specs.State.{own, heard, SameAt, StateOf, works_node, pair, says}
@@ -30,7 +30,7 @@ abbrev pub hear_refusal : Sizes → ℕ → ℕ → ℕ → ℕ → List ℕ →
 hear_refusal S o k j w s = answer_no (hear_answer S o k j w s)
 
 abbrev pub count_refusal : Sizes → ℕ → List ℕ → ℕ
-count_refusal S o s = numbered_no (outstanding_answer S o s)
+count_refusal S o s = answer_no (outstanding_answer S o s)
 
 abbrev pub count_of : Sizes → ℕ → List ℕ → ℕ
 count_of S o s = numbered_value (outstanding_answer S o s)

@@ -1,5 +1,5 @@
 -- 01, "The talking nodes": sound states, and the fresh state. Assumes nothing.
-use Rattle.std.specs.Prelude.{Bool, cond, ◌&&◌, List, ◌≡◌, ℕ, zero, suc, ◌/◌, ◌%◌, ◌<◌, T, eqb, length}
+use Rattle.std.specs.Prelude.{Bool, cond, ◌&&◌, List, ◌≡◌, ℕ, zero, suc, ◌/◌, ◌%◌, ◌<◌, T, eqb, length, Some, None, Option}
 use Rattle.mesh.specs.Tools.{implies, all, table}
 use Rattle.mesh.specs.Mesh.{nodes, number, place_of}
 use Rattle.mesh.specs.Steps.{next}
@@ -7,8 +7,6 @@ use Rattle.mesh.specs.Cells.{Map, faulty, wall, state_length}
 use Rattle.rules.specs.Marks.{Kind, useless, cant_reach, has, rule_byte, read_at, is_word}
 use Rattle.mesh.specs.declared.Sizes.{Sizes}
 use Rattle.mesh.specs.declared.Place.{Place}
-use Rattle.mesh.specs.declared.Next.{Next}
-use Rattle.mesh.specs.declared.Next.TheVariants.{At, Edge}
 use Rattle.talk.specs.State.{own, heard, map_in, faulty_node, works_node, pair, says}
 
 -- byte v "holds no mark that" byte w "lacks": as a test, and as a statement
@@ -25,9 +23,9 @@ faulty_hears m p j = 0
 
 -- "For a working node, heard is 8 where no neighbour exists, 1 where the neighbour is faulty, else a word";
 -- "each word heard holds no mark that the neighbour's own byte lacks": node k's byte for direction j, where a step leads to what is given
-abbrev pub heard_right : Map → List ℕ → ℕ → ℕ → Next → Bool
-heard_right m s k j Edge = eqb (heard s k j) 8
-heard_right m s k j (At q) =
+abbrev pub heard_right : Map → List ℕ → ℕ → ℕ → Option Place → Bool
+heard_right m s k j None = eqb (heard s k j) 8
+heard_right m s k j (Some q) =
     cond
     (wall m (place_of m.sizes k) j q)
     (eqb (heard s k j) 1)
@@ -63,9 +61,9 @@ pub record SoundOn (m : Map) (o : ℕ) (s : List ℕ) : Type 0 where
   pub ruled : (k : ℕ) → k < nodes m.sizes → T (works_node m k) → own s k ≡ rule_byte m.sizes o (heard s k)
   -- "For a working node, heard is 8 where no neighbour exists, 1 where the neighbour is faulty, else a word",
   pub edge : (k j : ℕ) → k < nodes m.sizes → T (works_node m k) → j < 6
-      → next m.sizes (place_of m.sizes k) j ≡ Edge → heard s k j ≡ 8
+      → next m.sizes (place_of m.sizes k) j ≡ None → heard s k j ≡ 8
   pub walled : (k j : ℕ) (q : Place) → k < nodes m.sizes → T (works_node m k)
-      → next m.sizes (place_of m.sizes k) j ≡ At q → T (wall m (place_of m.sizes k) j q) → heard s k j ≡ 1
+      → next m.sizes (place_of m.sizes k) j ≡ Some q → T (wall m (place_of m.sizes k) j q) → heard s k j ≡ 1
   -- and that "holds no mark that the neighbour's own byte lacks".
   pub words : (k j : ℕ) → T (pair m k j) → T (is_word (heard s k j)) × (heard s k j no_more_than says m.sizes s k j)
 

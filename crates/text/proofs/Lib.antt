@@ -1,4 +1,3 @@
 pub mod Decimal
-pub mod Saying
+pub mod Adding
 pub mod Telling
-pub mod Pieces

@@ -1,8 +1,9 @@
 // What the programs share, and little is proved of but that it is safe: room for a file, a file opened and named, bytes read, text printed.
-ghost use Rattle.std.specs.Prelude.{◌≡◌, ◌≤◌, length, replicate, take, IfOk, OnOk};
+ghost use Rattle.std.specs.Prelude.{◌≡◌, ℕ, ◌≤◌, List, length, replicate, IfOk, OnOk};
+ghost use Rattle.std.specs.Fn.{FnOnceReturnsAt};
 ghost use Rattle.std.specs.Io.KnownBytes.{Appends};
 
-use crate::name_line;
+use crate::Page;
 use std::env::{Env, FillError};
 use std::fs::Files;
 use std::io::{Error, Read, Result, Write};
@@ -28,16 +29,6 @@ pub fn arg_count(rt: &impl Env) -> usize {
     usize::MAX
 }
 
-// Stores an argument in front; its length, or 0 where it is missing or does not fit.
-fn argument(rt: &impl Env, i: usize, path: &mut [u8]) -> usize
-    ensures { result ≤ length path.new }
-{
-    match rt.arg(i, path) {
-        Ok(n) => n,
-        Err(_) => 0,
-    }
-}
-
 // Opens a file. A path is UTF-8 text.
 fn open<R: Files>(rt: &R, path: &[u8]) -> Result<R::File> {
     match str::from_utf8(path) {
@@ -46,19 +37,13 @@ fn open<R: Files>(rt: &R, path: &[u8]) -> Result<R::File> {
     }
 }
 
-// How long the words for an error are, which zeros follow, or the system's number for it in parentheses.
-fn words(told: &[u8]) -> usize
-    ensures { result ≤ length told.now }
-{
-    for i in 0..told.len() {
-        if told[i] == 0 {
-            return i;
-        }
-        if told[i] == b'(' {
-            return i.saturating_sub(1);
-        }
+// The words for an error: zeros follow them, or the system's number for it in parentheses.
+fn words(told: &[u8]) -> &[u8] {
+    match told.iter().position(|&b| b == 0 || b == b'(') {
+        Some(end) if told[end] == b'(' => &told[..end.saturating_sub(1)],
+        Some(end) => &told[..end],
+        None => told,
     }
-    told.len()
 }
 
 // Writes a line: the file, and why it cannot be opened.
@@ -66,10 +51,9 @@ fn fail<E: Write>(to: &mut E, path: &[u8], error: Error) -> Result<()> {
     let mut told = [0u8; 128];
     let mut room = &mut told[..];
     let _ = write!(room, "{error}");
-    let n = words(&told);
     to.write_all(path)?;
     to.write_all(b": ")?;
-    to.write_all(&told[..n])?;
+    to.write_all(words(&told))?;
     to.write_all(b"\n")
 }
 
@@ -83,26 +67,45 @@ pub fn open_named<R: Env + Files, W: Write, E: Write>(
 ) -> Result<Option<R::File>>
     requires { length word.now ≤ 4 }
 {
-    let mut path = [0u8; 4096];
-    let n = argument(rt, i, &mut path);
-    match open(rt, &path[..n]) {
+    let mut room = [0u8; 4096];
+    let n = rt.arg(i, &mut room).unwrap_or(0);
+    let path = &room[..n];
+    match open(rt, path) {
         Ok(file) => {
-            let mut line = [0u8; 65536];
-            let end = name_line(word, &path[..n], &mut line);
-            print_front(out, &line, end)?;
+            let mut line = Page::<65536>::blank();
+            line.name(word, path);
+            out.write_all(line.text())?;
             Ok(Some(file))
         }
         Err(error) => {
-            fail(err, &path[..n], error)?;
+            fail(err, path, error)?;
             Ok(None)
         }
     }
+}
+
+// Runs a program on each file that an argument names, under its name.
+pub fn each_named<R: Env + Files, W: Write, E: Write, F: Fn(&mut R::File, &mut W) -> Result<()>>(
+    rt: &R,
+    out: &mut W,
+    err: &mut E,
+    run: F,
+) -> Result<()>
+    requires { F.IsAlwaysCallable run }
+{
+    for i in 1..arg_count(rt) {
+        if let Some(mut file) = open_named(rt, out, err, b"", i)? {
+            run(&mut file, out)?;
+        }
+    }
+    Ok(())
 }
 
 // Reads until the lent bytes are full or the input ends; how many were read. An error is the reader's own, and leaves open what the bytes are.
 pub fn read_front<R: Read>(from: &mut R, file: &mut [u8]) -> Result<usize>
     ensures { IfOk result (λ n. n ≤ length file.new) }
 {
+    // How many were read is the answer, so they are counted here.
     let mut done = 0;
     while done < file.len() {
         let n = from.read(&mut file[done..])?;
@@ -114,10 +117,17 @@ pub fn read_front<R: Read>(from: &mut R, file: &mut [u8]) -> Result<usize>
     Ok(done)
 }
 
-// Prints the first n bytes. An error is the writer's own, and leaves open how many it took.
-pub fn print_front<W: Write>(out: &mut W, text: &[u8], n: usize) -> Result<()>
-    requires { n ≤ length text.now }
-    ensures { OnOk result (Appends (W.contents out.old) (W.contents out.new) (take n text.now)) }
+// Reads a file, and prints the page that is written on it. An error is the reader's or the writer's own.
+pub fn filter<R: Read, W: Write, F: FnOnce(&[u8]) -> Page<65536>>(
+    from: &mut R,
+    out: &mut W,
+    page_on: F,
+) -> Result<()>
+    requires { F.IsAlwaysCallable page_on }
+    ensures { OnOk result ((file page : List ℕ) × FnOnceReturnsAt F.FnOnce page_on file page
+        × Appends (W.contents out.old) (W.contents out.new) page) }
 {
-    out.write_all(&text[..n])
+    let mut file = blank_file();
+    let n = read_front(from, &mut file)?;
+    out.write_all(page_on(&file[..n]).text())
 }

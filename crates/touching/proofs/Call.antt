@@ -9,14 +9,12 @@ use lib.ListN.{length, take, drop, take-append-drop}
 use lib.Seq.{take_at, drop_at}
 use Rattle.mesh.specs.Mesh.{nodes}
 use Rattle.mesh.specs.Cells.{map_of}
-use Rattle.mesh.specs.Answers.{answer_no, answer_bad, answer_value, numbered_no, numbered_bad, numbered_value, ◌and_then◌, check_map, check_orientation, check_room}
+use Rattle.mesh.specs.Answers.{answer_no, answer_bad, answer_value, numbered_value, ◌and_then◌, check_map, check_orientation, check_room, Answer}
 use Rattle.mesh.specs.Order.{◌else◌, map_checks, NamesBad}
 use Rattle.mesh.specs.declared.Sizes.{Sizes}
 use Rattle.mesh.specs.declared.Refusal.TheVariants.{BadNumber, NoRoom}
-use Rattle.mesh.specs.declared.Answer.{Answer}
 use Rattle.mesh.proofs.Answers.{kept}
-use Rattle.mesh.proofs.Order.{one_number, ◌decide◌, gives, decides_then, map_decided, orientation_decided, room_decided}
-use Rattle.mesh.proofs.Order.{bad_after, bad_map, bad_one, done_of, refused_of, numbered_as}
+use Rattle.mesh.proofs.Order.{one_number, ◌decide◌, gives, decides_then, map_decided, orientation_decided, room_decided, bad_after, bad_map, bad_one, done_of, refused_of, numbered_as}
 use Rattle.rules.specs.Marks.{marks_of}
 use Rattle.rules.proofs.Marks.{marks_length}
 use Rattle.touching.specs.Components.{table_of, records_of, how_many}
@@ -78,7 +76,7 @@ module _ (S : Sizes) (cells : List ℕ) (o : ℕ) where
   module _ (table : List ℕ) (row : List Component) where
     pub components_promise :
         let a = components_answer S cells o (length table) (length row) in
-        ComponentsPromise S cells o table row (numbered_no a) (numbered_bad a) (numbered_value a) (components_table S cells o table row) (components_row S cells o table row)
+        ComponentsPromise S cells o table row (answer_no a) (answer_bad a) (numbered_value a) (components_table S cells o table row) (components_row S cells o table row)
     unfolding components_answer
     components_promise =
         let c = check (length table) (length row) in

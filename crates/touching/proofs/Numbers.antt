@@ -20,8 +20,7 @@ use Rattle.touching.specs.Components.{lowest, lowest_nodes, number_among, table_
 use Rattle.touching.specs.Promise.{Lowest, Numbers}
 use Rattle.touching.proofs.Lists.{T-keep, keep_few, Ascending, keep_ascends, first_in, first_lowest}
 use Rattle.touching.proofs.Ranks.{rank, rank_pos, rank_few, rank_lt, rank_at, rank_inj, at_in, rank_only}
-use Rattle.touching.proofs.Joined.{T-unsafe, unsafe_lt, unsafe_ascends, component_ascends, end_unsafe, joined_trans, joined_sym, T-component}
-use Rattle.touching.proofs.Joined.{component_same}
+use Rattle.touching.proofs.Joined.{T-unsafe, unsafe_lt, unsafe_ascends, component_ascends, end_unsafe, joined_trans, joined_sym, T-component, component_same}
 
 module _ (S : Sizes) (marks : List ℕ) where
   -- the lowest node of a's component, and all lowest nodes

@@ -3,7 +3,7 @@
 
 // A component: how many nodes it has, and the least and the greatest coordinate on each axis.
 #[repr(C)]
-#[derive(Clone, Copy)]
+#[derive(Debug, Clone, Copy, PartialEq, Eq, Hash)]
 pub struct Component {
     pub count: u16,
     pub x0: u8,

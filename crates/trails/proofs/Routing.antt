@@ -7,38 +7,34 @@ use native.Mathlib.Omega.{arith}
 use lib.ListN.{length, drop}
 use lib.Dec.{T}
 use borrow.Author.Tests.{le-leb, lt-leb}
-use Rattle.mesh.specs.Mesh.{number, place_of, Inside}
-use Rattle.mesh.specs.Cells.{Map, map_of, cell_at, may_end}
+use Rattle.mesh.specs.Mesh.{number, Inside}
+use Rattle.mesh.specs.Cells.{Map, cell_at, may_end}
 use Rattle.mesh.specs.Fill.{Filled}
 use Rattle.mesh.proofs.Fill.{front}
-use Rattle.mesh.specs.declared.Sizes.{Sizes}
 use Rattle.mesh.specs.declared.Place.{Place}
 use Rattle.mesh.specs.declared.Refusal.{Refusal}
 use Rattle.mesh.specs.declared.Refusal.TheVariants.{NoRoom, NoPath}
-use Rattle.mesh.specs.declared.Answer.TheVariants.{Done, Refused}
-use Rattle.mesh.specs.declared.Numbered.{Numbered}
-use Rattle.mesh.specs.declared.Numbered.TheVariants.{Number, NotNumbered}
 use Rattle.paths.specs.Differences.{hops}
 use Rattle.paths.specs.Paths.{leads}
 use Rattle.paths.specs.Offered.{route}
-use Rattle.paths.specs.Entries.{check_ends, verdict_check, route_check, route_answer, route_written, route_out}
 use Rattle.paths.proofs.Offered.{route_length_lem}
 use Rattle.rows.specs.Box.{between, reach}
 use Rattle.trails.specs.Table.{Table, trail, routed_answer, routed_out}
 use Rattle.trails.proofs.Trails.{route_trail}
+use Rattle.std.specs.Prelude.{Ok, Err, Result}
 
 module _ (m : Map) (p e : Place) (old : List ℕ) where
-  abbrev pub Routed : Numbered → List ℕ → Type 0
+  abbrev pub Routed : Result ℕ Refusal → List ℕ → Type 0
   Routed answer new = (answer ≡ routed_answer m p e (length old)) × (new ≡ routed_out m p e old)
 
-  pub routed_10 : leads m e p e ≡ false → Routed (NotNumbered NoPath) old
+  pub routed_10 : leads m e p e ≡ false → Routed (Err NoPath) old
   routed_10 l = rw l (refl, refl)
 
-  pub routed_3 : leads m e p e ≡ true → length old < hops p e + 1 → Routed (NotNumbered NoRoom) old
+  pub routed_3 : leads m e p e ≡ true → length old < hops p e + 1 → Routed (Err NoRoom) old
   routed_3 l h = rw (l, lt-leb (hops p e + 1) (length old) h) (refl, refl)
 
   pub routed_0 : leads m e p e ≡ true → hops p e + 1 ≤ length old → (new : List ℕ) → new ≡ route m e p ++ drop (hops p e + 1) old
-      → Routed (Number (hops p e + 1)) new
+      → Routed (Ok (hops p e + 1)) new
   routed_0 l h new f = rw (l, le-leb (hops p e + 1) (length old) h) (refl, f)
 
 -- the way through the table is written in full, and nothing else
@@ -51,17 +47,3 @@ route_written_lem m p e p_in e_in ends table K old new l h F = front (route m e 
     (route_length_lem m e p p_in l) h F.size
     (λ k i. F.at k i ∙ sym (route_trail m p e p_in e_in ends table K l k (omega arith)))
     (λ k i. F.kept k (λ j n q. omega arith))
-
--- ---- the public call
-
-module _ (S : Sizes) (cells : List ℕ) (s e : ℕ) (old : List ℕ) where
-  pub route_refused : (r : Refusal) → check_ends S cells s e ≡ Refused r
-      → (NotNumbered r ≡ route_answer S cells s e (length old)) × (old ≡ route_out S cells s e old)
-  unfolding route_answer route_check verdict_check
-  route_refused r h = rw h (refl, refl)
-
-  pub route_past : check_ends S cells s e ≡ Done → (answer : Numbered) (new : List ℕ)
-      → Routed (map_of S cells) (place_of S s) (place_of S e) old answer new
-      → (answer ≡ route_answer S cells s e (length old)) × (new ≡ route_out S cells s e old)
-  unfolding route_answer route_check verdict_check route_written
-  route_past h answer new R = rw h R

@@ -7,7 +7,7 @@ use native.Mathlib.Omega.{arith}
 use lib.ListN.{length, get_or, set, drop, length-set, get_or-append}
 use lib.Seq.{get_or-set_same, get_or-set_other}
 use lib.Dec.{T, eqb}
-use borrow.Author.Tests.{eqb-true, eqb-false, le-leb, lt-leb}
+use borrow.Author.Tests.{eqb-true, eqb-false, le-leb}
 use Rattle.mesh.specs.Tools.{bit, sum}
 use Rattle.mesh.specs.Mesh.{nodes, number, place_of, Inside}
 use Rattle.mesh.specs.Cells.{Map, map_of, cell_at, may_end}
@@ -18,10 +18,6 @@ use Rattle.mesh.proofs.Tables.{sum_same}
 use Rattle.mesh.proofs.Numbers.{number_lt, number_of, place_of_lem, place_in}
 use Rattle.mesh.specs.declared.Sizes.{Sizes}
 use Rattle.mesh.specs.declared.Place.{Place}
-use Rattle.mesh.specs.declared.Refusal.{Refusal}
-use Rattle.mesh.specs.declared.Refusal.TheVariants.{NoRoom}
-use Rattle.mesh.specs.declared.Answer.TheVariants.{Done, Refused}
-use Rattle.mesh.specs.declared.Numbered.TheVariants.{Number, NotNumbered}
 use Rattle.paths.specs.Differences.{hops}
 use Rattle.paths.specs.Paths.{leads}
 use Rattle.paths.specs.Offered.{reached_at, reached, reached_count}
@@ -38,6 +34,8 @@ use Rattle.rows.specs.declared.Between.{Between}
 use Rattle.trails.specs.Spread.{Bits, Spread}
 use Rattle.trails.proofs.Layers.{spread_safe}
 use Rattle.trails.proofs.Trails.{summed, far_zero}
+use Rattle.std.specs.Prelude.{Ok}
+use Rattle.mesh.specs.Answers.{accepted}
 
 module _ (m : Map) (s e : Place) (s_in : Inside m.sizes s) (e_in : Inside m.sizes e) (ends : T (may_end (cell_at m e))) where
   abbrev g : Between
@@ -111,18 +109,8 @@ front_bits m s e old new f k l = rw (front_byte m s e old new f k l) (bit_le (re
 -- ---- the public call
 
 module _ (S : Sizes) (cells : List ℕ) (s e : ℕ) (old : List ℕ) where
-  pub reached_refused : (r : Refusal) → check_ends S cells s e ≡ Refused r
-      → (NotNumbered r ≡ reached_answer S cells s e (length old)) × (old ≡ reached_out S cells s e old)
-  unfolding reached_answer reached_check
-  reached_refused r h = rw h (refl, refl)
-
-  module _ (good : check_ends S cells s e ≡ Done) where
-    pub reached_3 : length old < nodes S → (NotNumbered NoRoom ≡ reached_answer S cells s e (length old)) × (old ≡ reached_out S cells s e old)
-    unfolding reached_answer reached_check
-    reached_3 h = rw (good, lt-leb (nodes S) (length old) h) (refl, refl)
-
-    pub reached_0 : nodes S ≤ length old → (n : ℕ) (new : List ℕ) → new ≡ reached (map_of S cells) (place_of S s) (place_of S e) ++ drop (nodes S) old
-        → n ≡ sum (nodes S) (λ k. get_or new k 0) → (Number n ≡ reached_answer S cells s e (length old)) × (new ≡ reached_out S cells s e old)
-    unfolding reached_answer reached_check reached_written reached_count
-    reached_0 h n new f c = rw (good, le-leb (nodes S) (length old) h)
-        (ap Number (c ∙ sum_same (nodes S) _ _ (front_byte (map_of S cells) (place_of S s) (place_of S e) old new f)), f)
+  pub reached_0 : check_ends S cells s e ≡ accepted → nodes S ≤ length old → (n : ℕ) (new : List ℕ) → new ≡ reached (map_of S cells) (place_of S s) (place_of S e) ++ drop (nodes S) old
+      → n ≡ sum (nodes S) (λ k. get_or new k 0) → (Ok n ≡ reached_answer S cells s e (length old)) × (new ≡ reached_out S cells s e old)
+  unfolding reached_answer reached_check reached_written reached_count
+  reached_0 good h n new f c = rw (good, le-leb (nodes S) (length old) h)
+      (ap Ok (c ∙ sum_same (nodes S) _ _ (front_byte (map_of S cells) (place_of S s) (place_of S e) old new f)), f)

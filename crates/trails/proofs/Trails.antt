@@ -16,7 +16,6 @@ use Rattle.mesh.proofs.Tests.{T-and, T-or, T-eq, bool_ext}
 use Rattle.mesh.proofs.Bits.{bit_one}
 use Rattle.mesh.proofs.Steps.{put, dir_lt, next_in}
 use Rattle.mesh.specs.declared.Place.{Place}
-use Rattle.mesh.specs.declared.Next.TheVariants.{At}
 use Rattle.paths.specs.Differences.{hops, same}
 use Rattle.paths.specs.Paths.{leads}
 use Rattle.paths.specs.Offered.{offers, lowest, route_within, route}
@@ -32,6 +31,7 @@ use Rattle.rows.specs.declared.Between.{Between}
 use Rattle.trails.specs.Table.{Table, towards, ways_in, nearest, trail}
 use Rattle.trails.proofs.Table.{ways_in_lem}
 use Rattle.trails.proofs.Following.{towards_within}
+use Rattle.std.specs.Prelude.{Some}
 
 -- ---- the lowest of six
 
@@ -102,7 +102,7 @@ module _ (m : Map) (s e : Place) (s_in : Inside m.sizes s) (e_in : Inside m.size
 
   -- where the route goes on
   record Onto (p q : Place) : Type 0 where
-    led : next m.sizes p (lowest 6 (offers m e p)) ≡ At q
+    led : next m.sizes p (lowest 6 (offers m e p)) ≡ Some q
     nearer : hops p e ≡ suc (hops q e)
     leading : T (leads m e q e)
 
@@ -115,7 +115,7 @@ module _ (m : Map) (s e : Place) (s_in : Inside m.sizes s) (e_in : Inside m.size
       let i = node_in m s e s_in e_in t w in
       let o : T (offers m e p j) = rw (there t w a ∙ h) tt in
       let l : T (ltb 0 (on t a)) = ((T-and (ltb 0 (on t a)) (ahead m s e s_in e_in (put a t (on t a - 1)))).0 (rw h tt)).0 in
-      let n : next m.sizes p j ≡ At q = step_back m s e s_in e_in t w a (ltb→lt 0 (on t a) l) in
+      let n : next m.sizes p j ≡ Some q = step_back m s e s_in e_in t w a (ltb→lt 0 (on t a) l) in
       let L = lowest_is 6 (offers m e p) j (dir_lt a (not (run_on g a).down)) o in
       let f : lowest 6 (offers m e p) ≡ j = least_one (λ i. T (offers m e p i)) (lowest 6 (offers m e p)) j L.none L.passes
       (none_here (offers m e p) a (run_on g a).down (away t w a) none) o in

@@ -1,13 +1,11 @@
 -- The table of a route: the layers of a sweep from the end, and the way through them. No promise is stated in these words: that the way is
 -- the route is proved (proofs/Trails). Assumes nothing.
-use Rattle.std.specs.Prelude.{◌≡◌, Bool, cond, List, ◌++◌, ℕ, zero, suc, ◌+◌, ◌*◌, ◌<◌, length, get_or, drop}
+use Rattle.std.specs.Prelude.{◌≡◌, Bool, cond, List, ◌++◌, ℕ, zero, suc, ◌+◌, ◌*◌, ◌<◌, length, get_or, drop, Result}
 use Rattle.mesh.specs.Tools.{bit, one}
 use Rattle.mesh.specs.Mesh.{X, Y, Z}
 use Rattle.mesh.specs.Cells.{Map}
-use Rattle.mesh.specs.Answers.{granted, numbered, ◌and_then◌, check_room}
+use Rattle.mesh.specs.Answers.{granted, answered, ◌and_then◌, check_room, Answer}
 use Rattle.mesh.specs.declared.Place.{Place}
-use Rattle.mesh.specs.declared.Answer.{Answer}
-use Rattle.mesh.specs.declared.Numbered.{Numbered}
 use Rattle.paths.specs.Differences.{hops}
 use Rattle.paths.specs.Offered.{route}
 use Rattle.paths.specs.Entries.{check_path}
@@ -16,6 +14,7 @@ use Rattle.rows.specs.Box.{far, Within}
 use Rattle.sweeps.specs.Sweep.{nearer, Seen, seen_at}
 use Rattle.sweeps.specs.declared.Ways.{Ways}
 use Rattle.rows.specs.declared.Between.{Between}
+use Rattle.mesh.specs.declared.Refusal.{Refusal}
 
 -- the rows of the first n layers: bit a of row b of layer c says whether the node a, b and c steps away is seen, whatever is seen
 abbrev pub Table : Map → Between → ℕ → List ℕ → Type 0
@@ -45,8 +44,8 @@ trail g table (suc i) = nearest table (trail g table i)
 abbrev pub path_check : Map → Place → Place → ℕ → Answer
 path_check m p e room = check_path m p e and_then check_room (hops p e + 1) room
 
-abbrev pub routed_answer : Map → Place → Place → ℕ → Numbered
-routed_answer m p e room = numbered (path_check m p e room) (hops p e + 1)
+abbrev pub routed_answer : Map → Place → Place → ℕ → Result ℕ Refusal
+routed_answer m p e room = answered (path_check m p e room) (hops p e + 1)
 
 abbrev pub routed_out : Map → Place → Place → List ℕ → List ℕ
 routed_out m p e old = granted (path_check m p e (length old)) (route m e p ++ drop (hops p e + 1) old) old

@@ -7,7 +7,7 @@ ghost use Rattle.rows.specs.Box.{largest, reach, far, Held, Good, Ready};
 ghost use Rattle.sweeps.specs.Sweep.{Ends, WaysTo};
 ghost use Rattle.trails.specs.Table.{Table, ways_in, nearest, trail, routed_answer, routed_out};
 
-use mesh::{Numbered, Place, Refusal, Sizes};
+use mesh::{Place, Refusal, Sizes};
 use rows::Between;
 use rows::layer::faulty_layer;
 use sweeps::Ways;
@@ -28,12 +28,12 @@ fn lay(c: usize, rows: &[u16], table: &mut [u16])
     requires { (length rows.now ≡ 16) × (length table.old ≡ 256) × (c < 16) }
     ensures { Filled (λ b. 16 * c + b) (λ b. get_or rows.now b 0) table.old table.new 16 }
 {
-    for b in 0..16 {
-        table[16 * c + b] = rows[b];
+    for (b, &row) in rows.iter().enumerate() {
+        table[16 * c + b] = row;
     }
 }
 
-// Every layer of a box into the table, and the ways into the far corner.
+// Every layer of a box into the table, and the ways into the far corner. A loop of its own, as `ways` (sweeps) says.
 fn lay_all(s: Sizes, cells: &[u8], g: Between, table: &mut [u16]) -> Ways
     requires { Ready s cells.now g × Good s cells.now × (length table.old ≡ 256) }
     ensures { WaysTo (map_of s cells.now) g (far g) result × Table (map_of s cells.now) g (g.z.steps + 1) table.new }
@@ -42,12 +42,10 @@ fn lay_all(s: Sizes, cells: &[u8], g: Between, table: &mut [u16]) -> Ways
     let mut rows = seeded();
     let mut faulty = [0u16; 16];
     let mut w = Ways { x: 0, y: 0, z: 0 };
-    let mut c = 0;
-    while c < n {
+    for c in 0..n {
         faulty_layer(s, cells, g, c, &mut faulty);
         w = over(g, c, &faulty, &mut rows);
         lay(c, &rows, table);
-        c += 1;
     }
     w
 }
@@ -72,27 +70,14 @@ fn step_nearer(table: &[u16], t: Place) -> Place
 {
     let w = ways_in(table, t);
     if w.x == 1 {
-        return Place {
-            x: t.x - 1,
-            y: t.y,
-            z: t.z,
-        };
+        Place { x: t.x - 1, ..t }
+    } else if w.y == 1 {
+        Place { y: t.y - 1, ..t }
+    } else if w.z == 1 {
+        Place { z: t.z - 1, ..t }
+    } else {
+        t
     }
-    if w.y == 1 {
-        return Place {
-            x: t.x,
-            y: t.y - 1,
-            z: t.z,
-        };
-    }
-    if w.z == 1 {
-        return Place {
-            x: t.x,
-            y: t.y,
-            z: t.z - 1,
-        };
-    }
-    t
 }
 
 // The first n nodes of the way from the far corner.
@@ -101,16 +86,20 @@ fn follow(s: Sizes, g: Between, table: &[u16], n: usize, out: &mut [u16])
     ensures { Filled (λ i. i) (λ i. number s (reach g (trail g table.now i))) out.old out.new n }
 {
     let mut t = g.far();
-    let mut i = 0;
-    while i < n {
-        out[i] = g.node(s, t.x, t.y, t.z) as u16;
+    for node in out[..n].iter_mut() {
+        *node = g.node(s, t.x, t.y, t.z) as u16;
         t = step_nearer(table, t);
-        i += 1;
     }
 }
 
 // The route from p to e: refusals 10 and 3.
-pub fn write_route(s: Sizes, cells: &[u8], p: Place, e: Place, out: &mut [u16]) -> Numbered
+pub fn write_route(
+    s: Sizes,
+    cells: &[u8],
+    p: Place,
+    e: Place,
+    out: &mut [u16],
+) -> Result<usize, Refusal>
     requires { Ends s cells.now p e }
     ensures { (result ≡ routed_answer (map_of s cells.now) p e (length out.old))
         × (out.new ≡ routed_out (map_of s cells.now) p e out.old) }
@@ -121,11 +110,11 @@ pub fn write_route(s: Sizes, cells: &[u8], p: Place, e: Place, out: &mut [u16]) 
     let mut table = blank();
     let w = lay_all(s, cells, g, &mut table);
     if !leads_on(h, w) {
-        return Numbered::NotNumbered(Refusal::NoPath);
+        return Err(Refusal::NoPath);
     }
     if out.len() < n {
-        return Numbered::NotNumbered(Refusal::NoRoom);
+        return Err(Refusal::NoRoom);
     }
     follow(s, g, &table, n, out);
-    Numbered::Number(n)
+    Ok(n)
 }

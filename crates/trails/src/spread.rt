@@ -3,7 +3,6 @@ ghost use Rattle.std.specs.Prelude.{◌≡◌, ◌++◌, ◌+◌, ◌≤◌, len
 ghost use Rattle.mesh.specs.Tools.{sum};
 ghost use Rattle.mesh.specs.Mesh.{nodes};
 ghost use Rattle.mesh.specs.Cells.{map_of};
-ghost use Rattle.mesh.specs.Fill.{Filled};
 ghost use Rattle.paths.specs.Offered.{reached};
 ghost use Rattle.rows.specs.Box.{far, Good, Ready};
 ghost use Rattle.sweeps.specs.Sweep.{Ends, WaysTo};
@@ -18,7 +17,7 @@ use sweeps::boxes::between;
 use sweeps::offers::leads_on;
 use sweeps::signed::hops;
 
-// Every layer of a box, each at its own nodes, and the ways into the far corner.
+// Every layer of a box, each at its own nodes, and the ways into the far corner. A loop of its own, as `ways` (sweeps) says.
 fn spread(s: Sizes, cells: &[u8], g: Between, bytes: &mut [u8]) -> Ways
     requires { Ready s cells.now g × Good s cells.now × (nodes s ≤ length bytes.old) × Blank s bytes.old }
     ensures { WaysTo (map_of s cells.now) g (far g) result × Spread (map_of s cells.now) g (g.z.steps + 1) bytes.old bytes.new }
@@ -27,24 +26,12 @@ fn spread(s: Sizes, cells: &[u8], g: Between, bytes: &mut [u8]) -> Ways
     let mut rows = seeded();
     let mut faulty = [0u16; 16];
     let mut w = Ways { x: 0, y: 0, z: 0 };
-    let mut c = 0;
-    while c < n {
+    for c in 0..n {
         faulty_layer(s, cells, g, c, &mut faulty);
         w = over(g, c, &faulty, &mut rows);
         add_layer(s, g, c, &rows, 1, bytes);
-        c += 1;
     }
     w
-}
-
-// The first n bytes become 0.
-fn clear(out: &mut [u8], n: usize)
-    requires { n ≤ length out.old }
-    ensures { Filled (λ i. i) (λ i. 0) out.old out.new n }
-{
-    for i in 0..n {
-        out[i] = 0;
-    }
 }
 
 // The bytes of all nodes: what is reached from p on the way to e.
@@ -52,7 +39,7 @@ pub fn write_reached(s: Sizes, cells: &[u8], p: Place, e: Place, out: &mut [u8])
     requires { Ends s cells.now p e × (nodes s ≤ length out.old) }
     ensures { out.new ≡ reached (map_of s cells.now) p e ++ drop (nodes s) out.old }
 {
-    clear(out, s.nodes());
+    out[..s.nodes()].fill(0);
     let w = spread(s, cells, between(p, e), out);
     out[s.number(e)] = leads_on(hops(p, e), w) as u8;
 }
@@ -63,8 +50,8 @@ pub fn total(out: &[u8], n: usize) -> usize
     ensures { result ≡ sum n (λ k. get_or out.now k 0) }
 {
     let mut t: u16 = 0;
-    for i in 0..n {
-        t += out[i] as u16;
+    for &byte in &out[..n] {
+        t += byte as u16;
     }
     t as usize
 }

@@ -10,46 +10,45 @@ use lib.Dec.{ltb, eqb}
 use lib.ListN.{length, get_or, drop, get_or-append}
 use Rattle.mesh.specs.Mesh.{in_range, nodes, place_of}
 use Rattle.mesh.specs.Cells.{map_of, cell_at, may_end, bad_cell, first_bad}
-use Rattle.mesh.specs.Answers.{◌and_then◌, unless, check_cells, check_map}
+use Rattle.mesh.specs.Answers.{◌and_then◌, unless, check_cells, check_map, answered, accepted, Answer}
 use Rattle.mesh.specs.declared.Sizes.{Sizes}
 use Rattle.mesh.specs.declared.Refusal.{Refusal}
 use Rattle.mesh.specs.declared.Refusal.TheVariants.{BadSizes, BadLength, BadCell, BadNumber, FaultyEnd, NoPath}
-use Rattle.mesh.specs.declared.Answer.{Answer}
-use Rattle.mesh.specs.declared.Answer.TheVariants.{Done, Refused}
 use Rattle.mesh.proofs.Answers.{split, ok_of}
 use Rattle.mesh.proofs.Tests.{holds_true}
 use Rattle.paths.specs.Differences.{hops}
 use Rattle.paths.specs.Paths.{leads}
 use Rattle.paths.specs.Offered.{offered, route}
-use Rattle.paths.specs.Entries.{judged, check_ends, check_path, verdict_check, verdict_answer, route_check, route_written, route_out}
-use Rattle.paths.specs.declared.Verdict.TheVariants.{Granted, NotGranted}
+use Rattle.paths.specs.declared.Grant.{Grant}
+use Rattle.paths.specs.Entries.{grant, check_ends, check_path, verdict_check, verdict_answer, route_check, route_written, route_out}
 use Rattle.paths.proofs.Differences.{hops_le}
 use Rattle.paths.proofs.Offered.{route_length_lem}
 use Rattle.routes.proofs.Ends.{ends_granted}
 use Rattle.text.specs.Text.{ascii, told}
-use Rattle.text.proofs.Pieces.{pieces_same}
+use Rattle.text.proofs.Adding.{pieces_same}
 use Rattle.transfers.specs.Transfer.{no_path, granted_text}
+use Rattle.std.specs.Prelude.{Ok, Err}
 
 -- ---- no check but the last refuses for want of a path
 
 abbrev Other : Answer → Type 0
-Other a = (r : Refusal) → a ≡ Refused r → no_path r ≡ false
+Other a = (r : Refusal) → a ≡ Err r → no_path r ≡ false
 
-other_done : Other Done
+other_done : Other accepted
 other_done r e = let z : ◌≡◌ {A = ℕ} 0 1 = cc in absurd (omega arith)
 
-other_refused : (x : Refusal) → no_path x ≡ false → Other (Refused x)
+other_refused : (x : Refusal) → no_path x ≡ false → Other (Err x)
 other_refused x h r e = let q : x ≡ r = cc in subst (λ (y : Refusal). no_path y ≡ false) q h
 
 other_then : (a b : Answer) → Other a → Other b → Other (a and_then b)
-other_then Done b p q = q
-other_then (Refused r) b p q = p
+other_then (Ok _) b p q = q
+other_then (Err r) b p q = p
 
 other_unless : (t : Bool) (x : Refusal) → no_path x ≡ false → Other (unless t x)
 other_unless true x h = other_done
 other_unless false x h = other_refused x h
 
-other_cond : (t : Bool) (x : Refusal) → no_path x ≡ false → Other (cond t (Refused x) Done)
+other_cond : (t : Bool) (x : Refusal) → no_path x ≡ false → Other (cond t (Err x) accepted)
 other_cond true x h = other_refused x h
 other_cond false x h = other_done
 
@@ -75,15 +74,15 @@ module _ (S : Sizes) (cells : List ℕ) where
         (other_unless (may_end (cell_at (map_of S cells) (place_of S e))) FaultyEnd refl)
 
     -- where there is no path, the ends have been checked
-    pub no_path_ends : (r : Refusal) → verdict_answer S cells s e ≡ NotGranted r → no_path r ≡ true → check_ends S cells s e ≡ Done
+    pub no_path_ends : (r : Refusal) → verdict_answer S cells s e ≡ Err r → no_path r ≡ true → check_ends S cells s e ≡ accepted
     unfolding verdict_answer verdict_check
     no_path_ends r is h = go (check_ends S cells s e) other_ends is
       where
         go : (a : Answer) → Other a
-            → judged (a and_then check_path (map_of S cells) (place_of S s) (place_of S e)) (hops (place_of S s) (place_of S e))
-            (offered (map_of S cells) (place_of S e) (place_of S s)) ≡ NotGranted r → a ≡ Done
-        go Done o k = refl
-        go (Refused x) o k =
+            → answered (a and_then check_path (map_of S cells) (place_of S s) (place_of S e)) (grant (hops (place_of S s) (place_of S e))
+            (offered (map_of S cells) (place_of S e) (place_of S s))) ≡ Err r → a ≡ accepted
+        go (Ok _) o k = refl
+        go (Err x) o k =
             let q : x ≡ r = cc in
             let z : ◌≡◌ {A = Bool} true false = sym h ∙ subst (λ (y : Refusal). no_path y ≡ false) q (o x refl) in
             let n : ◌≡◌ {A = ℕ} 0 1 = cc in
@@ -91,17 +90,19 @@ module _ (S : Sizes) (cells : List ℕ) where
 
     -- ---- a transfer that is granted
 
-    pub granted_says : (h o : ℕ) → verdict_answer S cells s e ≡ Granted h o → (verdict_check S cells s e ≡ Done) × (h ≡ hops (place_of S s) (place_of S e))
+    pub granted_says : (g : Grant) → verdict_answer S cells s e ≡ Ok g → (verdict_check S cells s e ≡ accepted) × (g.hops ≡ hops (place_of S s) (place_of S e))
     unfolding verdict_answer
-    granted_says h o is = go (verdict_check S cells s e) is
+    granted_says g is = go (verdict_check S cells s e) is
       where
-        go : (a : Answer) → judged a (hops (place_of S s) (place_of S e)) (offered (map_of S cells) (place_of S e) (place_of S s)) ≡ Granted h o
-            → (a ≡ Done) × (h ≡ hops (place_of S s) (place_of S e))
-        go Done k = (refl, cc)
-        go (Refused x) k = let z : ◌≡◌ {A = ℕ} 0 1 = cc in absurd (omega arith)
+        go : (a : Answer) → answered a (grant (hops (place_of S s) (place_of S e)) (offered (map_of S cells) (place_of S e) (place_of S s))) ≡ Ok g
+            → (a ≡ accepted) × (g.hops ≡ hops (place_of S s) (place_of S e))
+        go (Ok _) k =
+            let q : grant (hops (place_of S s) (place_of S e)) (offered (map_of S cells) (place_of S e) (place_of S s)) ≡ g = cc in
+            (refl, ap (λ (g : Grant). g.hops) (sym q))
+        go (Err x) k = let z : ◌≡◌ {A = ℕ} 0 1 = cc in absurd (omega arith)
 
-    module _ (checked : verdict_check S cells s e ≡ Done) where
-      both : (check_ends S cells s e ≡ Done) × (leads (map_of S cells) (place_of S e) (place_of S s) (place_of S e) ≡ true)
+    module _ (checked : verdict_check S cells s e ≡ accepted) where
+      both : (check_ends S cells s e ≡ accepted) × (leads (map_of S cells) (place_of S e) (place_of S s) (place_of S e) ≡ true)
       unfolding verdict_check
       both =
           let l = leads (map_of S cells) (place_of S e) (place_of S s) (place_of S e) in

@@ -1,5 +1,5 @@
 -- The text for one transfer: granted with its route, or refused with the reason and, where there is no path, a picture. Assumes nothing.
-use Rattle.std.specs.Prelude.{Bool, cond, List, [], ◌∷◌, ◌++◌, ℕ, ◌+◌, eqb, get_or}
+use Rattle.std.specs.Prelude.{Bool, cond, List, [], ◌∷◌, ◌++◌, ℕ, ◌+◌, eqb, get_or, Ok, Err, Result}
 use Rattle.mesh.specs.Mesh.{place_of}
 use Rattle.mesh.specs.Cells.{map_of}
 use Rattle.mesh.specs.Answers.{refusal_no}
@@ -7,11 +7,10 @@ use Rattle.mesh.specs.declared.Sizes.{Sizes}
 use Rattle.mesh.specs.declared.Refusal.{Refusal}
 use Rattle.paths.specs.Offered.{route}
 use Rattle.paths.specs.Entries.{verdict_answer}
-use Rattle.paths.specs.declared.Verdict.{Verdict}
-use Rattle.paths.specs.declared.Verdict.TheVariants.{Granted, NotGranted}
 use Rattle.text.specs.Text.{ascii, told, pieces}
 use Rattle.picture.specs.Picture.{picture}
 use Rattle.transfers.specs.Words.{reason_line}
+use Rattle.paths.specs.declared.Grant.{Grant}
 
 -- a transfer that is granted: its hops, and the nodes of its route
 unfoldable pub granted_text : ℕ → List ℕ → List ℕ
@@ -25,9 +24,9 @@ no_path r = eqb (refusal_no r) 10
 unfoldable pub refused_text : Sizes → List ℕ → ℕ → ℕ → Refusal → List ℕ
 refused_text S cells s e r = reason_line (ascii ": refused ") r ++ cond (no_path r) (picture (map_of S cells) s e) []
 
-abbrev pub verdict_text : Sizes → List ℕ → ℕ → ℕ → Verdict → List ℕ
-verdict_text S cells s e (Granted h o) = granted_text h (route (map_of S cells) (place_of S e) (place_of S s))
-verdict_text S cells s e (NotGranted r) = refused_text S cells s e r
+abbrev pub verdict_text : Sizes → List ℕ → ℕ → ℕ → Result Grant Refusal → List ℕ
+verdict_text S cells s e (Ok g) = granted_text g.hops (route (map_of S cells) (place_of S e) (place_of S s))
+verdict_text S cells s e (Err r) = refused_text S cells s e r
 
 -- a transfer, on line k
 abbrev pub transfer_text : Sizes → List ℕ → ℕ → ℕ → ℕ → List ℕ

@@ -1,32 +1,32 @@
 // The text for one transfer.
 #![tactic(auto)]
 
-ghost use Rattle.std.specs.Prelude.{◌≡◌, [], ◌∷◌, ◌+◌, ◌≤◌, length, get_or};
-ghost use Rattle.mesh.specs.declared.Answer.TheVariants.{Done};
+ghost use Rattle.std.specs.Prelude.{◌≡◌, [], ◌∷◌, ◌+◌, ◌≤◌, length, get_or, Err};
 ghost use Rattle.mesh.specs.Mesh.{place_of};
 ghost use Rattle.mesh.specs.Cells.{map_of};
 ghost use Rattle.paths.specs.Differences.{hops};
 ghost use Rattle.paths.specs.Offered.{route};
 ghost use Rattle.paths.specs.Entries.{verdict_check, verdict_answer};
-ghost use Rattle.paths.specs.declared.Verdict.TheVariants.{NotGranted};
-ghost use Rattle.text.specs.Text.{ascii, told, pieces, Said};
+ghost use Rattle.text.specs.Text.{ascii, told, pieces, Added};
 ghost use Rattle.transfers.specs.Transfer.{granted_text, refused_text, transfer_text};
 ghost use Rattle.transfers.specs.Words.{reason_line};
 ghost use Rattle.transfers.specs.Room.{reason_room, route_room, granted_room, refused_room, transfer_room};
+ghost use Rattle.mesh.specs.Answers.{accepted};
+ghost use Rattle.mesh.specs.declared.Refusal.{Refusal};
 
 use logfile::reading::line_of;
 use mesh::{Refusal, Sizes};
-use paths::Verdict;
+use paths::Grant;
 use picture::drawing::picture;
 use routes::entries::route;
-use text::{say, tell};
+use text::Page;
 
 // A line that ends with a refusal in words.
-pub fn say_refusal(word: &[u8], r: Refusal, out: &mut [u8], at: usize) -> usize
-    requires { at + (length word.now + reason_room) ≤ length out.old }
-    ensures { Said out.old at (reason_line word.now r) out.new result
-        × (result ≤ at + (length word.now + reason_room)) }
+pub fn say_refusal<const N: usize>(page: &mut Page<N>, word: &[u8], r: Refusal)
+    requires { length page.old + (length word.now + reason_room) ≤ N }
+    ensures { Added page.old (reason_line word.now r) (length word.now + reason_room) page.new }
 {
+    // A table by number: the definition `reasons` has a line for each.
     let reasons = b"0: granted
 1: a size is outside its range
 2: the cells are not as many as the nodes
@@ -40,90 +40,83 @@ pub fn say_refusal(word: &[u8], r: Refusal, out: &mut [u8], at: usize) -> usize
 10: no path
 11: the file is no map file
 ";
-    let reason = line_of(reasons, r.number() as usize);
-    let head = say(word, out, at);
-    let why = say(reason, out, head);
-    say(b"\n", out, why)
+    let reason = line_of(reasons, u32::from(r) as usize);
+    page.say(word);
+    page.say(reason);
+    page.say(b"\n");
 }
 
-// The first n nodes of a route.
-fn say_route(nodes: &[u16], n: usize, out: &mut [u8], at: usize) -> usize
-    requires { (n ≤ length nodes.now) × (n ≤ 46) × (at + route_room ≤ length out.old) }
-    ensures { Said out.old at (pieces (λ i. told (ascii " %") (get_or nodes.now i 0 ∷ [])) n) out.new result
-        × (result ≤ at + route_room) }
+// The nodes of a route.
+fn say_route<const N: usize>(page: &mut Page<N>, nodes: &[u16])
+    requires { (length nodes.now ≤ 46) × (length page.old + route_room ≤ N) }
+    ensures { Added page.old (pieces (λ i. told (ascii " %") (get_or nodes.now i 0 ∷ [])) (length nodes.now)) route_room page.new }
 {
-    let mut next = at;
-    for i in 0..n {
-        next = tell(b" %", &[nodes[i] as usize], out, next);
+    for &node in nodes {
+        page.tell(b" %", &[node as usize]);
     }
-    next
 }
 
 // The hops and the route.
-fn say_granted(nodes: &[u16], h: usize, out: &mut [u8], at: usize) -> usize
-    requires { (h + 1 ≤ length nodes.now) × (h ≤ 45) × (at + granted_room ≤ length out.old) }
-    ensures { Said out.old at (granted_text h nodes.now) out.new result × (result ≤ at + granted_room) }
+fn say_granted<const N: usize>(page: &mut Page<N>, h: usize, nodes: &[u16])
+    requires { (length nodes.now ≡ h + 1) × (h ≤ 45) × (length page.old + granted_room ≤ N) }
+    ensures { Added page.old (granted_text h nodes.now) granted_room page.new }
 {
-    let hops = tell(b": granted, hops %, route", &[h], out, at);
-    let list = say_route(nodes, h + 1, out, hops);
-    say(b"\n", out, list)
+    page.tell(b": granted, hops %, route", &[h]);
+    say_route(page, nodes);
+    page.say(b"\n");
 }
 
 // The text for a transfer that is granted.
-fn granted(
+fn granted<const N: usize>(
+    page: &mut Page<N>,
     s: Sizes,
     cells: &[u8],
     start: usize,
     end: usize,
     h: usize,
-    out: &mut [u8],
-    at: usize,
-) -> usize
-    requires { (verdict_check s cells.now start end ≡ Done) × (h ≡ hops (place_of s start) (place_of s end)) × (at + granted_room ≤ length out.old) }
-    ensures { Said out.old at
-        (granted_text h (route (map_of s cells.now) (place_of s end) (place_of s start))) out.new result × (result ≤ at + granted_room) }
+)
+    requires { (verdict_check s cells.now start end ≡ accepted) × (h ≡ hops (place_of s start) (place_of s end)) × (length page.old + granted_room ≤ N) }
+    ensures { Added page.old (granted_text h (route (map_of s cells.now) (place_of s end) (place_of s start))) granted_room page.new }
 {
     let mut nodes = [0u16; 46];
-    route(s, cells, start, end, &mut nodes);
-    say_granted(&nodes, h, out, at)
+    let _ = route(s, cells, start, end, &mut nodes);
+    say_granted(page, h, &nodes[..h + 1]);
 }
 
 // The refusal in words, and the picture where there is no path.
-fn refused(
+fn refused<const N: usize>(
+    page: &mut Page<N>,
     s: Sizes,
     cells: &[u8],
     start: usize,
     end: usize,
     r: Refusal,
-    out: &mut [u8],
-    at: usize,
-) -> usize
-    requires { (verdict_answer s cells.now start end ≡ NotGranted r) × (at + refused_room ≤ length out.old) }
-    ensures { Said out.old at (refused_text s cells.now start end r) out.new result × (result ≤ at + refused_room) }
+)
+    requires { (verdict_answer s cells.now start end ≡ Err r) × (length page.old + refused_room ≤ N) }
+    ensures { Added page.old (refused_text s cells.now start end r) refused_room page.new }
 {
-    let line = say_refusal(b": refused ", r, out, at);
-    if r.number() == 10 {
-        return picture(s, cells, start, end, out, line);
+    say_refusal(page, b": refused ", r);
+    if matches!(r, Refusal::NoPath) {
+        picture(page, s, cells, start, end);
     }
-    line
 }
 
 // The text for a transfer with its verdict.
-pub fn transfer(
+pub fn transfer<const N: usize>(
+    page: &mut Page<N>,
     s: Sizes,
     cells: &[u8],
     k: usize,
     start: usize,
     end: usize,
-    v: Verdict,
-    out: &mut [u8],
-) -> usize
-    requires { (v ≡ verdict_answer s cells.now start end) × (transfer_room ≤ length out.old) }
-    ensures { Said out.old 0 (transfer_text s cells.now k start end) out.new result × (result ≤ transfer_room) }
+    v: Result<Grant, Refusal>,
+)
+    requires { (v ≡ verdict_answer s cells.now start end) × (length page.old + transfer_room ≤ N) }
+    ensures { Added page.old (transfer_text s cells.now k start end) transfer_room page.new }
 {
-    let next = tell(b"line %: % to %", &[k, start, end], out, 0);
+    page.tell(b"line %: % to %", &[k, start, end]);
     match v {
-        Verdict::Granted(h, _) => granted(s, cells, start, end, h, out, next),
-        Verdict::NotGranted(r) => refused(s, cells, start, end, r, out, next),
+        Ok(g) => granted(page, s, cells, start, end, g.hops),
+        Err(r) => refused(page, s, cells, start, end, r),
     }
 }

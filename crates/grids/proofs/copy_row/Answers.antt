@@ -1,35 +1,22 @@
--- `grids::copy_row` meets its contract. The loop's invariant: the first `x` numbers are copied. Assumes nothing.
-use mathlib.Core.Path.{refl, subst}
-use Prim.Native.Nat.{◌+◌}
-use native.Mathlib.Omega.{arith}
-use lib.ListN.{get_or}
+-- `grids::copy_row` meets its contract: the part of the table that is written has the grid's numbers. Assumes nothing.
+use Rattle.std.proofs.Common.{rules, arith, ◌≡◌, ◌+◌, ◌-◌, ◌<◌, ◌≤◌, ◌++◌, List, ℕ, length, get_or}
+use Rattle.std.proofs.lemmas.List.{places}
+use lib.ListN.{take, drop}
 use Rattle.mesh.specs.Fill.{Filled}
-use Rattle.mesh.proofs.Fill.{fill_none, fill_more}
 use Rattle.grids.proofs.copy_row.Goals as goal
 
-pub loop-x-init : goal.loop-x-init
-loop-x-init c =
-    let a = c.args in
-    (omega arith, fill_none (λ i. a.k + i) (λ i. get_or a.grid.now (a.at + i) 0) a.table.now)
-
-pub bounds-table-k : goal.bounds-table-k
-bounds-table-k c = omega (arith, c.loop-x.invariant.1.size)
-
-pub loop-x-preserved : goal.loop-x-preserved
-loop-x-preserved c =
-    let l = c.loop-x in
-    let a = c.args in (
-      omega arith,
-      fill_more (λ i. a.k + i) (λ i. get_or a.grid.now (a.at + i) 0) a.table.now l.table l.x (a.k + l.x)
-          (get_or a.grid.now (a.at + l.x) 0) l.invariant.1
-          (omega (arith, l.invariant.1.size)) (λ i h e. omega arith) refl refl,
-    )
+-- a part of a list put back with other numbers
+part_filled : (old part : List ℕ) (at n k : ℕ) (v : ℕ → ℕ) → k ≡ n → at + n ≤ length old → length part ≡ n
+    → ((x : ℕ) → x < n → get_or part x 0 ≡ v x) → Filled (λ x. at + x) v old (take at old ++ (part ++ drop k (drop at old))) n
+part_filled old part at n k v same fits long is =
+    record {
+      at = λ x h. grind (arith, places, is);
+      kept = λ j h. grind (arith, places, h (j - at));
+      size = search (rules, places);
+    }
 
 pub returns : goal.returns
 returns c =
-    let l = c.loop-x in
-    let a = c.args in
-    subst (Filled (λ i. a.k + i) (λ i. get_or a.grid.now (a.at + i) 0) a.table.now l.table) (omega arith) l.invariant.1
-
-pub shape_of-table : goal.shape_of-table
-shape_of-table c = c.loop-x.invariant.1.size
+    let copied = c.copy_from_slice.ensures.after in
+    part_filled c.args.table.now c.copy_from_slice.new.self c.args.k c.args.w _ _ (omega arith) (omega arith) (search (rules, places))
+    λ x h. grind (arith, places)

@@ -1,11 +1,8 @@
 -- `making::put_fresh` meets its contract: so many rows are done, and in the end all nodes are. Assumes nothing.
-use Prim.Native.Nat.{◌-◌, ◌*◌, ◌≤◌}
+use Prim.Native.Nat.{◌*◌}
 use Rattle.mesh.specs.Cells.{map_of}
 use Rattle.making.specs.Making.{Fresh}
 use Rattle.making.proofs.put_fresh.Given as goal
 
 abbrev pub invariant-loop-row : goal.invariant-loop-row
-invariant-loop-row l = (l.row ≤ l.s.h * l.s.d) × Fresh (map_of l.s l.cells) l.o (l.s.w * l.row) l.state
-
-abbrev pub decreases-loop-row : goal.decreases-loop-row
-decreases-loop-row l = l.s.h * l.s.d - l.row
+invariant-loop-row l = Fresh (map_of l.s l.cells) l.o (l.s.w * l.row) l.state

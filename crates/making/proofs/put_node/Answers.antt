@@ -7,7 +7,6 @@ use Rattle.mesh.specs.Mesh.{number}
 use Rattle.mesh.specs.Cells.{faulty_cell}
 use Rattle.mesh.proofs.Answers.{Checked, map_granted}
 use Rattle.states.specs.Six.{Held}
-use Rattle.states.proofs.Beside.{six_lt}
 use Rattle.states.proofs.Around.{held}
 use Rattle.making.proofs.Made.{failed_done, working_done}
 use Rattle.making.proofs.put_node.Goals as goal
@@ -37,9 +36,7 @@ around-heard-requires c =
     ((map (goal.at.around-heard-requires c).Start).sized, omega arith, omega (arith, (map (goal.at.around-heard-requires c).Start).whole), c.requires.2, c.number-k.ensures.0)
 
 pub ruled-requires : goal.ruled-requires
-ruled-requires c =
-    let (e, b) = c.around-heard.ensures in
-    ((map (goal.at.ruled-requires c).Start).sized, c.requires.1, rw e (six_lt _ b))
+ruled-requires c = ((map (goal.at.ruled-requires c).Start).sized, c.requires.1)
 
 pub put_bytes-requires-else-faulty_cell : goal.put_bytes-requires-else-faulty_cell
 put_bytes-requires-else-faulty_cell c = room (goal.at.put_bytes-requires-else-faulty_cell c).After-number-k
@@ -52,7 +49,7 @@ returns-then-faulty_cell c =
     let t : T (faulty_cell (get_or cells c.number-k.result 0)) = rw (sym c.faulty_cell.ensures ∙ c.if-faulty_cell.true) tt in
     rw (← e)
     (failed_done a.s cells a.o c.number-k.result a.state.now c.put_bytes.new.state (rw e c.requires.3) c.put_bytes.auto.state
-    c.faulty_hears.result c.faulty_hears.ensures t c.put_bytes.ensures)
+    c.faulty_hears.result c.each.result.bytes c.faulty_hears.ensures c.each.ensures t c.put_bytes.ensures)
 
 pub returns-else-faulty_cell : goal.returns-else-faulty_cell
 returns-else-faulty_cell c =
@@ -61,5 +58,5 @@ returns-else-faulty_cell c =
     let e : c.number-k.result ≡ number a.s a.p = c.number-k.ensures.0 in
     rw (← e)
     (working_done a.s a.cells.now a.o c.number-k.result a.state.now c.put_bytes-else-faulty_cell.new.state (rw e c.requires.3) c.put_bytes-else-faulty_cell.auto.state
-    c.requires.0 c.number-k.ensures.1 (sym c.faulty_cell.ensures ∙ c.if-faulty_cell.false) c.around-heard.result c.ruled.result told bytes
+    c.requires.0 c.number-k.ensures.1 (sym c.faulty_cell.ensures ∙ c.if-faulty_cell.false) c.around-heard.result.bytes c.ruled.result told bytes
     c.ruled.ensures c.put_bytes-else-faulty_cell.ensures)

@@ -1,11 +1,8 @@
 -- `making::put_row` meets its contract: so many nodes of the row are done. Assumes nothing.
-use Prim.Native.Nat.{◌+◌, ◌-◌, ◌*◌, ◌≤◌}
+use Prim.Native.Nat.{◌+◌, ◌*◌}
 use Rattle.mesh.specs.Cells.{map_of}
 use Rattle.making.specs.Making.{Fresh}
 use Rattle.making.proofs.put_row.Given as goal
 
 abbrev pub invariant-loop-x : goal.invariant-loop-x
-invariant-loop-x l = (l.x ≤ l.s.w) × Fresh (map_of l.s l.cells) l.o (l.x + l.s.w * l.row) l.state
-
-abbrev pub decreases-loop-x : goal.decreases-loop-x
-decreases-loop-x l = l.s.w - l.x
+invariant-loop-x l = Fresh (map_of l.s l.cells) l.o (l.x + l.s.w * l.row) l.state

@@ -7,10 +7,10 @@ use lib.ListN.{length}
 use lib.Dec.{eqb}
 use Rattle.mesh.specs.Mesh.{nodes}
 use Rattle.mesh.specs.declared.Refusal.TheVariants.{BadCell}
-use Rattle.mesh.specs.declared.Answer.TheVariants.{Refused}
 use Rattle.mesh.proofs.Answers.{map_2, map_4, map_0}
 use Rattle.maps.proofs.check_map.Goals as goal
 use Rattle.maps.proofs.check_map.Goals.{Else-cells-nodes}
+use Rattle.std.specs.Prelude.{Err}
 
 -- past the second check
 whole : (c : Else-cells-nodes) → let a = c.args in eqb (length a.cells.now) (nodes a.s) ≡ true
@@ -27,7 +27,7 @@ first_bad-k-requires c = c.if-cells-nodes.false ∙ c.nodes.ensures.0
 pub returns-then-any_bad : goal.returns-then-any_bad
 returns-then-any_bad c =
     let a = c.args in
-    ap (λ k. Refused (BadCell k)) c.first_bad-k.ensures
+    ap (λ k. Err (BadCell k)) c.first_bad-k.ensures
     ∙ map_4 a.s a.cells.now (grind arith) (whole (goal.at.returns-then-any_bad c).Else-cells-nodes) (sym c.any_bad.ensures ∙ c.if-any_bad.true)
 
 pub returns : goal.returns

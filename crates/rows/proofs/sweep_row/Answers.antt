@@ -1,21 +1,12 @@
 -- `rows::sweep_row` meets its contract: what it adds is below 2 ^ 16, and the carries are the sweep. Assumes nothing.
 use Prim.Native.Nat.{◌<◌}
 use borrow.Author.Rules.{rules}
-use Rattle.rows.proofs.Carries.{seeds_fit, total_fits, carries_fit, sweeps}
+use Rattle.rows.proofs.Carries.{carries_fit, sweeps}
 use Rattle.rows.proofs.sweep_row.Goals as goal
 use Rattle.rows.proofs.sweep_row.Goals.{Start}
 
 narrow : (c : Start) → c.args.pass < 65536
 narrow c = search rules
-
-pub overflow_cast-a : goal.overflow_cast-a
-overflow_cast-a c = record { fits = seeds_fit _ _ (narrow (goal.at.overflow_cast-a c).Start) }
-
-pub overflow_cast-p : goal.overflow_cast-p
-overflow_cast-p c = record { fits = seeds_fit _ _ (narrow (goal.at.overflow_cast-p c).Start) }
-
-pub overflow_add-result : goal.overflow_add-result
-overflow_add-result c = record { fits = total_fits _ _ (narrow (goal.at.overflow_add-result c).Start) _ }
 
 pub overflow_cast-result : goal.overflow_cast-result
 overflow_cast-result c = record { fits = carries_fit _ _ (narrow (goal.at.overflow_cast-result c).Start) _ }

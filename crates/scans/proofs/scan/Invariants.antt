@@ -2,13 +2,10 @@
 -- Assumes nothing.
 use mathlib.Core.Path.{◌≡◌}
 use mathlib.Core.Bool.{true}
-use Prim.Native.Nat.{◌-◌, ◌*◌, ◌≤◌}
+use Prim.Native.Nat.{◌*◌, ◌≤◌}
 use Rattle.mesh.specs.Tools.{all, sum}
 use Rattle.scans.specs.Scan.{row_test, row_news}
 use Rattle.scans.proofs.scan.Given as goal
 
 abbrev pub invariant-loop-at : goal.invariant-loop-at
-invariant-loop-at l = (l.at ≤ l.rows) × (all l.at (row_test l.s l.o l.state) ≡ true) × (l.news ≡ sum l.at (row_news l.s l.state)) × (l.news ≤ 96 * l.at)
-
-abbrev pub decreases-loop-at : goal.decreases-loop-at
-decreases-loop-at l = l.rows - l.at
+invariant-loop-at l = (all l.at (row_test l.s l.o l.state) ≡ true) × (l.news ≡ sum l.at (row_news l.s l.state)) × (l.news ≤ 96 * l.at)

@@ -1,30 +1,27 @@
 -- `transfers::say_refusal` meets its contract: the line of the refusal's number is its reason. Assumes nothing.
 use mathlib.Core.Path.{◌≡◌, ap, ◌∙◌}
 use mathlib.Core.List.{[]}
-use Prim.Native.Nat.{ℕ, ◌+◌}
+use Prim.Native.Nat.{ℕ}
 use native.Mathlib.Omega.{arith}
-use lib.ListN.{length, get_or}
-use Rattle.text.proofs.Saying.{said_as, said_exact, said_then}
+use lib.ListN.{get_or}
+use Rattle.text.proofs.Adding.{added_then, added_as, added_within}
 use Rattle.logfile.specs.Log.{lines_of}
 use Rattle.transfers.specs.Words.{reasons, reason, reason_line}
 use Rattle.transfers.proofs.Reasons.{has_reason}
+use Rattle.transfers.proofs.say_refusal.Given.{Over}
 use Rattle.transfers.proofs.say_refusal.Goals as goal
 use Rattle.transfers.proofs.say_refusal.Goals.{After-line_of-reason}
 
-reason_is : (c : After-line_of-reason) → c.line_of-reason.result.now ≡ reason c.args.r
+reason_is : (g : Over) (c : After-line_of-reason g) → c.line_of-reason.result.now ≡ reason c.args.r
 unfolding reasons
-reason_is c = c.line_of-reason.ensures.0 ∙ ap (λ (n : ℕ). get_or (lines_of reasons) n []) c.number.ensures
+reason_is g c = c.line_of-reason.ensures.0 ∙ ap (λ (n : ℕ). get_or (lines_of reasons) n []) c.from.ensures
 
 pub line_of-reason-requires : goal.line_of-reason-requires
 unfolding reasons
-line_of-reason-requires c = has_reason c.number.result c.args.r c.number.ensures
+line_of-reason-requires g c = has_reason c.from.result c.args.r c.from.ensures
 
 pub returns : goal.returns
 unfolding reason_line
-returns c =
-    let n = length c.args.word.now in
-    let said = said_then (n + 348) 1 (omega (arith, c.requires))
-    (said_then n 348 (omega (arith, c.requires)) (said_exact c.say-head.ensures)
-    (said_as (reason_is (goal.at.returns c).After-line_of-reason) c.say-why.ensures, omega (arith, c.say-why.ensures.place, c.line_of-reason.ensures.1)))
-    (said_exact c.say.ensures) in
-    (said.0, omega (arith, said.1))
+returns g c =
+    let why = added_as (reason_is g (goal.at.returns g c).After-line_of-reason) c.say-2.ensures in
+    added_within (omega (arith, c.line_of-reason.ensures.1)) (added_then (added_then c.say.ensures why) c.say-3.ensures)

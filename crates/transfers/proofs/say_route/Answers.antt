@@ -1,17 +1,18 @@
 -- `transfers::say_route` meets its contract. Assumes nothing.
-use native.Mathlib.Omega.{arith}
-use Rattle.text.proofs.Pieces.{saying_none, saying_more, saying_all}
+use mathlib.Core.List.{List, [], ◌∷◌}
+use Prim.Native.Nat.{ℕ}
+use lib.ListN.{get_or}
+use Rattle.text.specs.Text.{ascii, told}
+use Rattle.text.proofs.Adding.{added_no_piece, added_piece}
+use Rattle.transfers.specs.Room.{node_room}
 use Rattle.transfers.proofs.say_route.Goals as goal
 
-pub loop-i-init : goal.loop-i-init
-loop-i-init c = let s = c.requires in saying_none (omega (arith, s.1)) s.2
+-- node i of a route, as it is told
+abbrev told_node : List ℕ → ℕ → List ℕ
+told_node nodes i = told (ascii " %") (get_or nodes i 0 ∷ [])
 
-pub overflow_cast-nodes : goal.overflow_cast-nodes
-overflow_cast-nodes c = omega (arith, c.type_inv.nodes c.loop-i.i)
+pub loop-node-init : goal.loop-node-init
+loop-node-init g c = added_no_piece (told_node c.args.nodes.now) node_room c.args.page.now
 
-pub loop-i-preserved : goal.loop-i-preserved
-loop-i-preserved c =
-    saying_more c.loop-i.invariant (omega arith) c.tell-next.ensures
-
-pub returns : goal.returns
-returns c = saying_all c.loop-i.invariant (omega arith)
+pub loop-node-preserved : goal.loop-node-preserved
+loop-node-preserved g c = added_piece (told_node c.args.nodes.now) node_room c.loop-node.node-index c.loop-node.invariant c.tell.ensures

@@ -1,14 +1,11 @@
 -- `transfers::say_route` meets its contract. Assumes nothing.
 use mathlib.Core.List.{[], ◌∷◌}
-use Prim.Native.Nat.{◌-◌}
+use Prim.Native.Nat.{◌*◌}
 use lib.ListN.{get_or}
-use Rattle.text.specs.Text.{ascii, told}
-use Rattle.transfers.specs.Room.{node_room, route_room}
-use Rattle.text.proofs.Pieces.{Saying}
+use Rattle.text.specs.Text.{ascii, told, pieces, Added}
+use Rattle.transfers.specs.Room.{node_room}
 use Rattle.transfers.proofs.say_route.Given as goal
 
-abbrev pub invariant-loop-i : goal.invariant-loop-i
-invariant-loop-i l = Saying (λ j. told (ascii " %") (get_or l.nodes j 0 ∷ [])) node_room route_room l.n l.initial.out l.at l.i l.out l.next
-
-abbrev pub decreases-loop-i : goal.decreases-loop-i
-decreases-loop-i l = l.n - l.i
+abbrev pub invariant-loop-node : goal.invariant-loop-node
+invariant-loop-node g l =
+    Added l.initial.page (pieces (λ i. told (ascii " %") (get_or l.nodes i 0 ∷ [])) l.node-index) (node_room * l.node-index) l.page

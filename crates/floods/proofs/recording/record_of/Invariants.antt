@@ -1,11 +1,9 @@
--- `floods::recording::record_of` meets its contract. The loop's invariant: the record's box is that of the first `t` places. Assumes nothing.
+-- `floods::recording::record_of` meets its contract. The loop's invariant: the record's box is that of the places so far. Assumes nothing.
 use mathlib.Core.Path.{◌≡◌}
-use Prim.Native.Nat.{◌-◌, ◌≤◌}
+use Prim.Native.Nat.{◌+◌}
+use lib.ListN.{length}
 use Rattle.floods.proofs.Boxes.{Boxed}
 use Rattle.floods.proofs.recording.record_of.Given as goal
 
-abbrev pub invariant-loop-t : goal.invariant-loop-t
-invariant-loop-t l = (1 ≤ l.t) × (l.t ≤ l.n) × (l.c.count ≡ l.n) × Boxed l.queue l.t l.c
-
-abbrev pub decreases-loop-t : goal.decreases-loop-t
-decreases-loop-t l = l.n - l.t
+abbrev pub invariant-loop-at : goal.invariant-loop-at
+invariant-loop-at l = (l.c.count ≡ length l.places) × Boxed l.places (l.at-index + 1) l.c

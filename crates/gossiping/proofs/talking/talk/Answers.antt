@@ -1,84 +1,61 @@
 -- `gossiping::talking::talk` meets its contract: as long as news is left there is a round to come, so that the rounds end. Assumes nothing.
-use mathlib.Core.Path.{refl, sym, ap, ◌∙◌}
-use Prim.Native.Nat.{ℕ, suc, ◌+◌, ◌*◌, ◌≤◌}
+use mathlib.Core.Path.{◌≡◌, refl, sym, ap, ◌∙◌}
+use Prim.Native.Nat.{ℕ, suc, ◌+◌}
 use native.Mathlib.Omega.{arith}
-use lib.ListN.{length}
+use Rattle.std.proofs.Common.{rules}
 use Rattle.mesh.specs.Mesh.{InRange}
 use Rattle.mesh.specs.Cells.{map_of}
 use Rattle.mesh.proofs.Answers.{map_granted}
-use Rattle.text.proofs.Saying.{said_as}
+use Rattle.text.proofs.Adding.{added_as, added_within}
 use Rattle.gossiping.specs.Text.{round_lines}
-use Rattle.report.specs.Room.{line_room}
 use Rattle.gossiping.proofs.Turns.{turn_first, turn_going, turn_told, turn_last, turn_more, turn_next}
+use Rattle.gossiping.proofs.talking.talk.Given.{Over}
 use Rattle.gossiping.proofs.talking.talk.Goals as goal
 use Rattle.gossiping.proofs.talking.talk.Goals.{At-loop-s}
 
--- what is known of the map and of the room
-sized : (c : At-loop-s) → InRange c.args.s
-sized c = (map_granted c.args.s c.args.cells.now c.requires.0).sized
-
-fits : (c : At-loop-s) → c.args.at + line_room * c.loop-s.r + line_room ≤ length c.args.out.now
-fits c = omega (arith, (sized c).w_hi, (sized c).h_hi, (sized c).d_hi, c.loop-s.invariant.3.few, c.requires.4)
+-- what is known of the map
+sized : (g : Over) (c : At-loop-s g) → InRange c.args.s
+sized g c = (map_granted c.args.s c.args.cells.now c.requires.0).sized
 
 pub loop-s-init : goal.loop-s-init
-loop-s-init c =
-    let a = c.args in (
-      refl,
-      refl,
-      refl,
-      turn_first (map_of a.s a.cells.now) a.o a.at a.out.now a.state.now a.way.now c.requires.2
-          c.requires.3,
-    )
+loop-s-init g c =
+    let a = c.args in
+    (refl, refl, turn_first (map_of a.s a.cells.now) a.o a.page.now a.state.now a.way.now c.requires.2 c.requires.3)
 
-pub tell_round-told-requires : goal.tell_round-told-requires
-tell_round-told-requires c = (
-  (turn_going (sized (goal.at.tell_round-told-requires c).At-loop-s) c.requires.1 c.loop-s.invariant.3).fit,
-  omega (arith, fits (goal.at.tell_round-told-requires c).At-loop-s, c.loop-s.invariant.2, c.loop-s.invariant.3.room),
-)
-
-pub shape_of-state-then-told-eq0 : goal.shape_of-state-then-told-eq0
-shape_of-state-then-told-eq0 c = c.loop-s.invariant.0
-
-pub shape_of-way-then-told-eq0 : goal.shape_of-way-then-told-eq0
-shape_of-way-then-told-eq0 c = c.loop-s.invariant.1
-
-pub shape_of-out-then-told-eq0 : goal.shape_of-out-then-told-eq0
-shape_of-out-then-told-eq0 c = c.tell_round-told.auto.out ∙ c.loop-s.invariant.2
-
-pub returns-then-told-eq0 : goal.returns-then-told-eq0
-returns-then-told-eq0 c =
-    let (n, line, room) = c.tell_round-told.ensures in
-    let e = turn_last (sized (goal.at.returns-then-told-eq0 c).At-loop-s) c.requires.1 c.loop-s.invariant.3 (sym n ∙ c.if-told-eq0.true) in
-    let text =
-    turn_told (sized (goal.at.returns-then-told-eq0 c).At-loop-s) c.requires.1 c.loop-s.invariant.3 c.tell_round-told.new.out c.tell_round-told.result.next
-    (omega (arith, fits (goal.at.returns-then-told-eq0 c).At-loop-s)) line in (
-      e,
-      said_as (ap (λ (k : ℕ). round_lines (map_of c.args.s c.args.cells.now) c.args.o (suc k)) e) text,
-      omega (arith, room, c.loop-s.invariant.3.room, c.loop-s.invariant.3.few, (sized (goal.at.returns-then-told-eq0 c).At-loop-s).w_hi, (sized (goal.at.returns-then-told-eq0 c).At-loop-s).h_hi, (sized (goal.at.returns-then-told-eq0 c).At-loop-s).d_hi),
-    )
+pub tell_round-requires : goal.tell_round-requires
+tell_round-requires g c =
+    let fit = sized g (goal.at.tell_round-requires g c).At-loop-s in
+    let t = c.loop-s.invariant.2 in
+    (search rules, ((turn_going fit c.requires.1 t).fit, omega (arith, fit.w_hi, fit.h_hi, fit.d_hi, t.few, t.told.in_room, c.requires.4)))
 
 pub one_round-drawn-requires : goal.one_round-drawn-requires
-one_round-drawn-requires c =
-    turn_going (sized (goal.at.one_round-drawn-requires c).At-loop-s) c.requires.1 c.loop-s.invariant.3
+one_round-drawn-requires g c = turn_going (sized g (goal.at.one_round-drawn-requires g c).At-loop-s) c.requires.1 c.loop-s.invariant.2
 
 pub overflow_add-r : goal.overflow_add-r
-overflow_add-r c =
-    omega (arith, c.loop-s.invariant.3.few, (sized (goal.at.overflow_add-r c).At-loop-s).w_hi, (sized (goal.at.overflow_add-r c).At-loop-s).h_hi, (sized (goal.at.overflow_add-r c).At-loop-s).d_hi)
+overflow_add-r g c =
+    let fit = sized g (goal.at.overflow_add-r g c).At-loop-s in
+    omega (arith, c.loop-s.invariant.2.few, fit.w_hi, fit.h_hi, fit.d_hi)
 
 pub loop-s-smaller : goal.loop-s-smaller
-loop-s-smaller c =
-    omega (
-      arith,
-      turn_more (sized (goal.at.loop-s-smaller c).At-loop-s) c.requires.1 c.loop-s.invariant.3 λ z. c.if-told-eq0.false (c.tell_round-told.ensures.0 ∙ z),
-    )
+loop-s-smaller g c =
+    let fit = sized g (goal.at.loop-s-smaller g c).At-loop-s in
+    omega (arith, turn_more fit c.requires.1 c.loop-s.invariant.2 λ z. c.loop-s-test.true (c.tell_round.ensures.0 ∙ z))
 
 pub loop-s-preserved : goal.loop-s-preserved
-loop-s-preserved c =
-    let (n, line, room) = c.tell_round-told.ensures in (
+loop-s-preserved g c =
+    let (news, line) = c.tell_round.ensures in
+    let fit = sized g (goal.at.loop-s-preserved g c).At-loop-s in (
       c.one_round-drawn.auto.state ∙ c.loop-s.invariant.0,
       c.one_round-drawn.auto.way ∙ c.loop-s.invariant.1,
-      c.tell_round-told.auto.out ∙ c.loop-s.invariant.2,
-      turn_next (sized (goal.at.loop-s-preserved c).At-loop-s) c.requires.1 c.loop-s.invariant.3 c.one_round-drawn.new.state c.one_round-drawn.new.way
-          c.tell_round-told.new.out c.one_round-drawn.result c.tell_round-told.result.next
-          (λ z. c.if-told-eq0.false (n ∙ z)) c.one_round-drawn.ensures (omega (arith, fits (goal.at.loop-s-preserved c).At-loop-s)) line room,
+      turn_next fit c.requires.1 c.loop-s.invariant.2 (λ z. c.loop-s-test.true (news ∙ z)) c.one_round-drawn.ensures line,
     )
+
+pub returns : goal.returns
+returns g c =
+    let (news, line) = c.tell_round.ensures in
+    let fit = sized g (goal.at.returns g c).At-loop-s in
+    let t = c.loop-s.invariant.2 in
+    let last = turn_last fit c.requires.1 t (sym news ∙ c.loop-s-test.false) in
+    let rounds : c.loop-s.r + 1 ≡ suc c.loop-s.r = omega arith in
+    let lines = ap (round_lines (map_of c.args.s c.args.cells.now) c.args.o) (rounds ∙ ap (λ (k : ℕ). suc k) last) in
+    (last, added_within (omega (arith, fit.w_hi, fit.h_hi, fit.d_hi, t.few)) (added_as lines (turn_told fit c.requires.1 t line)))

@@ -8,10 +8,9 @@ use Rattle.gossiping.proofs.Turns.{Turn}
 use Rattle.gossiping.proofs.talking.talk.Given as goal
 
 abbrev pub invariant-loop-s : goal.invariant-loop-s
-invariant-loop-s l = (length l.state ≡ length l.initial.state)
+invariant-loop-s g l = (length l.state ≡ length l.initial.state)
     × (length l.way ≡ length l.initial.way)
-    × (length l.out ≡ length l.initial.out)
-    × Turn (map_of l.s l.cells) l.o l.at l.initial.out l.state l.way l.out l.drawn l.r l.next
+    × Turn (map_of l.s l.cells) l.o l.initial.page l.state l.way l.page l.drawn l.r
 
 abbrev pub decreases-loop-s : goal.decreases-loop-s
-decreases-loop-s l = longest l.s - l.r
+decreases-loop-s g l = longest l.s - l.r

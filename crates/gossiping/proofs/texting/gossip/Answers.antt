@@ -2,48 +2,45 @@
 use mathlib.Core.Path.{sym, ap, ◌∙◌}
 use mathlib.Core.List.{List}
 use Prim.Native.Nat.{ℕ}
+use Rattle.std.proofs.Common.{rules}
 use native.Mathlib.Omega.{arith}
-use lib.ListN.{replicate}
+use lib.ListN.{length, replicate}
 use Rattle.std.proofs.lemmas.List.{length-replicate}
 use Rattle.mesh.specs.Cells.{map_of}
 use Rattle.format.specs.Entry.{read_answer}
 use Rattle.format.proofs.Read.{HasRead, has_read}
-use Rattle.text.proofs.Saying.{said_as}
+use Rattle.text.proofs.Adding.{written}
 use Rattle.report.specs.Report.{refusal_line}
 use Rattle.gossiping.specs.Text.{map_text}
 use Rattle.gossiping.proofs.Read.{map_told, refusal_told}
 use Rattle.gossiping.proofs.texting.gossip.Goals as goal
-use Rattle.gossiping.proofs.texting.gossip.Goals.{In-Read}
+use Rattle.gossiping.proofs.texting.gossip.Goals.{In-Ok}
 
 -- what the code knows where a map was read
-has : (c : In-Read) →
-    HasRead c.args.file.now 4096 c.in-Read.s c.read_map.new.cells
+has : (c : In-Ok) →
+    HasRead c.args.file.now 4096 c.in-Ok.s c.read_map.new.cells
 has c =
-    has_read (replicate 4096 0) (sym (length-replicate {A = ℕ} 4096 0)) c.read_map.ensures c.in-Read.is
+    has_read (replicate 4096 0) (sym (length-replicate {A = ℕ} 4096 0)) c.read_map.ensures c.in-Ok.is
 
 pub nodes-n-requires : goal.nodes-n-requires
-nodes-n-requires c = (has (goal.at.nodes-n-requires c).In-Read).sized
-
-pub slice_bounds-map_text-end : goal.slice_bounds-map_text-end
-slice_bounds-map_text-end c = (has (goal.at.slice_bounds-map_text-end c).In-Read).whole c.nodes-n.ensures.0
+nodes-n-requires c = (has (goal.at.nodes-n-requires c).In-Ok).sized
 
 pub map_text-requires : goal.map_text-requires
-map_text-requires c =
-    ((has (goal.at.map_text-requires c).In-Read).ordered c.nodes-n.ensures.0, c.requires)
+map_text-requires c = (
+  search rules,
+  ((has (goal.at.map_text-requires c).In-Ok).ordered c.nodes-n.ensures.0, omega (arith, ap length c.blank-page.ensures)),
+)
 
-pub returns-in-Read : goal.returns-in-Read
-returns-in-Read c =
-    let told = c.map_text.ensures in
-    let S = c.in-Read.s in
-    let known = has (goal.at.returns-in-Read c).In-Read in
-    let e = ap (λ (l : List ℕ). map_text (map_of S l)) (known.cells c.nodes-n.ensures.0) ∙ map_told _ S known.answer in
-    (said_as e told.0, told.1)
+pub returns-in-Ok : goal.returns-in-Ok
+returns-in-Ok c =
+    let known = has (goal.at.returns-in-Ok c).In-Ok in
+    let S = c.in-Ok.s in
+    written c.blank-page.ensures c.map_text.ensures
+    ∙ ap (λ (l : List ℕ). map_text (map_of S l)) (known.cells c.nodes-n.ensures.0)
+    ∙ map_told _ S known.answer
 
-pub returns-in-NotRead : goal.returns-in-NotRead
-returns-in-NotRead c =
+pub returns-in-Err : goal.returns-in-Err
+returns-in-Err c =
     let file = c.args.file.now in
-    let is = ap (read_answer file) (sym (length-replicate {A = ℕ} 4096 0)) ∙ sym c.read_map.ensures.0 ∙ c.in-NotRead.is in
-    let e = ap refusal_line c.number.ensures ∙ refusal_told file c.in-NotRead.r is in (
-      said_as e c.refusal_line.ensures.0,
-      omega (arith, c.refusal_line.ensures.1),
-    )
+    let is = ap (read_answer file) (sym (length-replicate {A = ℕ} 4096 0)) ∙ sym c.read_map.ensures.0 ∙ c.in-Err.is in
+    written c.blank-page.ensures c.refusal_line.ensures ∙ ap refusal_line c.from.ensures ∙ refusal_told file c.in-Err.r is

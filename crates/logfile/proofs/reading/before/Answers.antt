@@ -1,37 +1,20 @@
--- `logfile::reading::before` meets its contract: no byte passed has stopped. Assumes nothing.
-use mathlib.Core.Path.{◌≡◌, sym, ◌∙◌}
-use mathlib.Core.Bool.{false}
-use native.Mathlib.Omega.{arith}
-use borrow.Author.Count.{below_more}
-use lib.ListN.{get_or}
-use Rattle.mesh.proofs.Answers.{first_is}
-use Rattle.logfile.specs.Log.{stops}
+-- `logfile::reading::before` meets its contract. Assumes nothing.
+use mathlib.Core.Path.{subst⁻¹, ◌≡◌, ◌∙◌}
+use Prim.Native.Nat.{ℕ, ◌≤◌}
+use borrow.Author.Tests.{tests}
+use lib.ListN.{length}
+use Rattle.std.proofs.Common.{rules}
+use Rattle.std.proofs.lemmas.Iterator.{YieldsList-from_slice}
+use Rattle.std.proofs.lemmas.Iterator.Search.{position_from_yields_List}
+use Rattle.mesh.proofs.Answers.{first_le}
+use Rattle.logfile.specs.Log.{stops, before}
+use Rattle.logfile.proofs.Stops.{stop_found}
 use Rattle.logfile.proofs.reading.before.Goals as goal
-
-pub loop-i-init : goal.loop-i-init
-loop-i-init c = (omega arith, λ k h. absurd (omega arith))
-
-pub returns-then-stops : goal.returns-then-stops
-returns-then-stops c =
-    let l = c in
-    let a = l.args in (
-      sym (first_is (λ k. stops a.stop) a.text.now l.loop-i.i l.loop-i.invariant.0 l.loop-i.invariant.1
-          (λ h. sym c.stops.ensures ∙ c.if-stops.true)),
-      l.loop-i.invariant.0,
-    )
-
-pub loop-i-preserved : goal.loop-i-preserved
-loop-i-preserved c =
-    let l = c in
-    let a = l.args in (
-      omega arith,
-      below_more (λ k. stops a.stop (get_or a.text.now k 0) ≡ false) l.loop-i.i l.loop-i.invariant.1 (sym c.stops.ensures ∙ c.if-stops.false),
-    )
 
 pub returns : goal.returns
 returns c =
-    let l = c in
-    let a = l.args in (
-      sym (first_is (λ k. stops a.stop) a.text.now l.loop-i.i l.loop-i.invariant.0 l.loop-i.invariant.1 (λ h. absurd (omega arith))),
-      l.loop-i.invariant.0,
-    )
+    let text = c.args.text.now in
+    let test = stops c.args.stop in
+    let found = position_from_yields_List test _ _ c.position.result c.position.ensures.ran (YieldsList-from_slice text cc) (λ x b q k. search (rules, tests)) in
+    let is : c.unwrap_or.result ≡ before c.args.stop text = c.unwrap_or.ensures ∙ stop_found test text c.position.result found in
+    (is, subst⁻¹ (λ (n : ℕ). n ≤ length text) is (first_le (λ k. test) text))

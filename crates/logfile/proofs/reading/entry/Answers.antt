@@ -39,10 +39,10 @@ returns-in_default c =
 
 pub returns-in_default-number : goal.returns-in_default-number
 returns-in_default-number c =
-    no_end _ _ c.in-Number.start (sym (start_is (goal.at.returns-in_default-number c).After-number) ∙ c.in-Number.is)
+    no_end _ _ c.in-Some.start (sym (start_is (goal.at.returns-in_default-number c).After-number) ∙ c.in-Some.is)
     (sym (end_is (goal.at.returns-in_default-number c).After-number-2) ∙ c.in_default-number.is) ∙ pair_is (goal.at.returns-in_default-number c).Else-rest-ne0
 
 pub returns : goal.returns
 returns c =
-    a_pair _ _ c.in-Number.start c.in-Number-number.end (sym (start_is (goal.at.returns c).After-number) ∙ c.in-Number.is)
-    (sym (end_is (goal.at.returns c).After-number-2) ∙ c.in-Number-number.is) ∙ pair_is (goal.at.returns c).Else-rest-ne0
+    a_pair _ _ c.in-Some.start c.in-Some-number.end (sym (start_is (goal.at.returns c).After-number) ∙ c.in-Some.is)
+    (sym (end_is (goal.at.returns c).After-number-2) ∙ c.in-Some-number.is) ∙ pair_is (goal.at.returns c).Else-rest-ne0

@@ -26,21 +26,21 @@ missed file k h n =
     (λ f. absurd f)
 
 pub loop-i-init : goal.loop-i-init
-loop-i-init c = (omega arith, λ k h. absurd (omega arith))
+loop-i-init c = λ k h. absurd (omega arith)
 
-pub returns-then-trailer_at-i : goal.returns-then-trailer_at-i
-returns-then-trailer_at-i c =
+pub returns-then-trailer_at-byte : goal.returns-then-trailer_at-byte
+returns-then-trailer_at-byte c =
     let file = c.args.file.now in
-    sym (missed file c.loop-i.i (omega arith) λ e. c.if-trailer_at-i.true (c.trailer_at.ensures ∙ e))
+    sym (missed file c.loop-i.i (omega arith) λ e. c.if-trailer_at-byte.true (c.trailer_at.ensures ∙ e))
 
 pub loop-i-preserved : goal.loop-i-preserved
 loop-i-preserved c =
     let file = c.args.file.now in
-    let here = sym c.trailer_at.ensures ∙ c.if-trailer_at-i.false in
-    (omega arith, below_more (λ k. trailer_at file (8 + k) ≡ get_or file_mark k 0) c.loop-i.i c.loop-i.invariant.1 here)
+    let here = sym c.trailer_at.ensures ∙ c.if-trailer_at-byte.false in
+    below_more (λ k. trailer_at file (8 + k) ≡ get_or file_mark k 0) c.loop-i.i c.loop-i.invariant here
 
 pub returns : goal.returns
 returns c =
     let file = c.args.file.now in
     let e : c.loop-i.i ≡ 4 = omega arith in
-    sym (found file λ k h. c.loop-i.invariant.1 k (omega arith))
+    sym (found file λ k h. c.loop-i.invariant k (omega arith))

@@ -1,28 +1,41 @@
 -- `marks::blocked::meet` meets its contract: what is joined is 0 only while no turn has found three faulty cells. Assumes nothing.
-use mathlib.Core.Path.{◌≡◌, subst}
-use Prim.Native.Nat.{ℕ}
-use native.Mathlib.Omega.{arith}
+use Rattle.std.proofs.Common.{ℕ, List, length, ap, ◌∙◌, arith, subst}
 use borrow.Author.Tests.{eqb-true, not-false}
+use Rattle.std.proofs.lemmas.List.{length_push}
+use Rattle.std.proofs.lemmas.Iterator.{YieldsList-from_slice, YieldsList-from_zip}
+use Rattle.std.proofs.lemmas.Iterator.Consumers.{YieldsList-turn, YieldsList-end}
+use Rattle.mesh.specs.Tools.{bit}
+use Rattle.mesh.specs.Cells.{faulty_cell}
 use Rattle.marks.specs.Stretches.{Apart}
-use Rattle.marks.proofs.Stretches.{apart_more}
+use Rattle.marks.proofs.Stretches.{apart_more, stretch, three_long, three_at}
 use Rattle.marks.proofs.blocked.meet.Goals as goal
 
-pub loop-i-init : goal.loop-i-init
-loop-i-init c = (λ e i l. absurd (omega arith), omega arith)
-
-pub loop-i-preserved : goal.loop-i-preserved
-loop-i-preserved c =
-    let x = c in
-    let at = c in
-    let a = at.args in (
-      apart_more a.cells.now a.p a.q a.r at.loop-i.i at.loop-i.met _ _ _ at.loop-i.invariant.0 x.faulty_bit.ensures
-          c.faulty_bit-in-loop-i.ensures c.faulty_bit-in-loop-i-2.ensures,
-      omega arith,
-    )
+pub loop-x-preserved : goal.loop-x-preserved
+loop-x-preserved c =
+    let a = c.args in
+    let l = c.loop-x in
+    let r = c.requires in
+    let i = c.into_iter-x-iterator.result in
+    let of : ℕ → List ℕ = stretch a.cells.now a.n in
+    let all = YieldsList-from_zip (YieldsList-from_zip (YieldsList-from_slice {s = i.a.a} (of a.p) (cc)) (YieldsList-from_slice {s = i.a.b} (of a.q) (cc)))
+    (YieldsList-from_slice {s = i.b} (of a.r) (cc)) in
+    let t = YieldsList-turn all l.yielded _ l.yielded_by _ c.next.new.self _ c.in-Some.is c.next.ensures.steps in
+    let long = three_long a.cells.now a.n a.p a.q a.r r.0 r.1 r.2 in
+    let at = three_at a.cells.now a.n a.p a.q a.r r.0 r.1 r.2 (length l.yielded) _ (omega (arith, t.0, long)) t.1 in
+    rw (length_push l.yielded _)
+    (apart_more a.cells.now a.p a.q a.r (length l.yielded) l.met _ _ _ l.invariant
+    (c.faulty_bit.ensures ∙ ap (λ n. bit (faulty_cell n)) at.0) (c.faulty_bit-in-loop-x.ensures ∙ ap (λ n. bit (faulty_cell n)) at.1)
+    (c.faulty_bit-in-loop-x-2.ensures ∙ ap (λ n. bit (faulty_cell n)) at.2))
 
 pub returns : goal.returns
 returns c t =
-    let at = c in
-    let a = at.args in
-    let e : at.loop-i.i ≡ a.n = omega arith in
-    subst (λ (n : ℕ). Apart a.cells.now a.p a.q a.r n) e (at.loop-i.invariant.0 (eqb-true at.loop-i.met 0 (not-false _ t)))
+    let a = c.args in
+    let l = c.loop-x in
+    let r = c.requires in
+    let i = c.into_iter-x-iterator.result in
+    let of : ℕ → List ℕ = stretch a.cells.now a.n in
+    let all = YieldsList-from_zip (YieldsList-from_zip (YieldsList-from_slice {s = i.a.a} (of a.p) (cc)) (YieldsList-from_slice {s = i.a.b} (of a.q) (cc)))
+    (YieldsList-from_slice {s = i.b} (of a.r) (cc)) in
+    let e = YieldsList-end all l.yielded _ l.yielded_by _ c.next.new.self c.in-None.is c.next.ensures.steps in
+    subst (λ (n : ℕ). Apart a.cells.now a.p a.q a.r n) (e.1 ∙ three_long a.cells.now a.n a.p a.q a.r r.0 r.1 r.2)
+    (l.invariant (eqb-true l.met 0 (not-false _ t)))

@@ -1,11 +1,7 @@
 -- `marks::blocked::meet` meets its contract: what is joined is 0 only while no turn has found three faulty cells. Assumes nothing.
-use mathlib.Core.Path.{◌≡◌}
-use Prim.Native.Nat.{◌-◌, ◌≤◌}
+use Rattle.std.proofs.Common.{◌≡◌, length}
 use Rattle.marks.specs.Stretches.{Apart}
 use Rattle.marks.proofs.blocked.meet.Given as goal
 
-abbrev pub invariant-loop-i : goal.invariant-loop-i
-invariant-loop-i l = (l.met ≡ 0 → Apart l.cells l.p l.q l.r l.i) × (l.i ≤ l.n)
-
-abbrev pub decreases-loop-i : goal.decreases-loop-i
-decreases-loop-i l = l.n - l.i
+abbrev pub invariant-loop-x : goal.invariant-loop-x
+invariant-loop-x l = l.met ≡ 0 → Apart l.cells l.p l.q l.r (length l.yielded)

@@ -50,19 +50,19 @@ pub loop-c-init : goal.loop-c-init
 loop-c-init c =
     let w = c in
     let a = w.args in
-    let m = map_of a.s a.cells.now in (
-      omega arith,
-      ap length c.beyond-rows.ensures,
-      subst (Holds w.whole-g.result (prior m (shut_left m a.o) 0)) (sym c.beyond-rows.ensures) (beyond_holds m w.whole-g.result (shut_left m a.o) (small (goal.at.loop-c-init c).After-whole-g)),
-      layers_none _ _ _ _ _,
-    )
+    let m = map_of a.s a.cells.now in
+    record {
+      long = ap length c.beyond-rows.ensures;
+      holds = subst (Holds w.whole-g.result (prior m (shut_left m a.o) 0)) (sym c.beyond-rows.ensures) (beyond_holds m w.whole-g.result (shut_left m a.o) (small (goal.at.loop-c-init c).After-whole-g));
+      layers = layers_none _ _ _ _ _;
+    }
 
 pub over-stuck-requires : goal.over-stuck-requires
 over-stuck-requires c =
     let at = c in
     let w = c in
     let r = w.requires.0 in
-    (record { sized = r.sized; whole = r.whole; held = held (goal.at.over-stuck-requires c).After-whole-g }, r.good, at.loop-c.invariant.1, omega (arith, deep (goal.at.over-stuck-requires c).After-whole-g))
+    (record { sized = r.sized; whole = r.whole; held = held (goal.at.over-stuck-requires c).After-whole-g }, r.good, at.loop-c.invariant.long, omega (arith, deep (goal.at.over-stuck-requires c).After-whole-g))
 
 pub add_layer-requires : goal.add_layer-requires
 add_layer-requires c =
@@ -74,10 +74,10 @@ add_layer-requires c =
     let a = s.args in
     let r = s.requires.0 in
     let g = w.whole-g.result in
-    let L = at.loop-c.invariant.3 in
+    let L = at.loop-c.invariant.layers in
     let k : at.loop-c.c ≤ g.z.steps = omega (arith, deep (goal.at.add_layer-requires c).After-whole-g, turn.loop-c-test.true) in (
       record { sized = r.sized; held = held (goal.at.add_layer-requires c).After-whole-g; fits = λ t i. omega (arith, within (goal.at.add_layer-requires c).After-whole-g t i, r.fits, L.size) },
-      omega (arith, small (goal.at.add_layer-requires c).After-whole-g, over.over-stuck.ensures.0.size, at.loop-c.invariant.1),
+      omega (arith, small (goal.at.add_layer-requires c).After-whole-g, over.over-stuck.ensures.0.size, at.loop-c.invariant.long),
       k,
       λ i j li lj.
           let n = within (goal.at.add_layer-requires c).After-whole-g (place i j at.loop-c.c) (record { x_le = li; y_le = lj; z_le = k }) in
@@ -95,18 +95,18 @@ loop-c-preserved c =
     let g = w.whole-g.result in
     let Q : Shuts m g (shut_left m a.o) = subst (λ g. Shuts m g (shut_left m a.o)) (sym w.whole-g.ensures) (shuts_whole m a.o s.requires.0.sized) in
     let rows = v.over-stuck.new.rows in
-    let H = over_holds m g at.loop-c.c at.loop-c.rows rows v.over-stuck.ensures.0 (shut_left m a.o) Q at.loop-c.invariant.2 in
+    let H = over_holds m g at.loop-c.c at.loop-c.rows rows v.over-stuck.ensures.0 (shut_left m a.o) Q at.loop-c.invariant.holds in
     let hc : at.loop-c.c ≤ g.z.steps = omega (arith, deep (goal.at.loop-c-preserved c).After-whole-g) in
-    let L = at.loop-c.invariant.3 in
-    let more : List ℕ → Type 0 = λ new. Layers m g (shut_left m a.o) a.v a.out.now new (at.loop-c.c + 1) in (
-      omega arith,
-      v.over-stuck.ensures.0.size ∙ at.loop-c.invariant.1,
-      H,
-      elim c.if-stuck-ne0.branch [
+    let L = at.loop-c.invariant.layers in
+    let more : List ℕ → Type 0 = λ new. Layers m g (shut_left m a.o) a.v a.out.now new (at.loop-c.c + 1) in
+    record {
+      long = v.over-stuck.ensures.0.size ∙ at.loop-c.invariant.long;
+      holds = H;
+      layers = elim c.if-stuck-ne0.branch [
         | then-stuck-ne0 b ↦ subst more (sym b.out-is) (layers_more m g (held (goal.at.loop-c-preserved c).After-whole-g) _ _ _ _ at.loop-c.c hc L rows _ H b.add_layer.ensures)
         | else-stuck-ne0 b ↦ subst more (sym b.out-is) (layers_skip m g (held (goal.at.loop-c-preserved c).After-whole-g) _ _ _ _ at.loop-c.c hc L rows H (v.over-stuck.ensures.1 b.if-stuck-ne0.false))
-      ],
-    )
+      ];
+    }
 
 pub returns : goal.returns
 returns c =
@@ -118,13 +118,13 @@ returns c =
     let e : at.loop-c.c ≡ a.s.d = omega arith in
     swept_all m a.o a.v a.out.now at.loop-c.out s.requires.0.sized
     (subst (λ g. Layers m g (shut_left m a.o) a.v a.out.now at.loop-c.out a.s.d) w.whole-g.ensures
-    (subst (λ (n : ℕ). Layers m w.whole-g.result (shut_left m a.o) a.v a.out.now at.loop-c.out n) e at.loop-c.invariant.3))
+    (subst (λ (n : ℕ). Layers m w.whole-g.result (shut_left m a.o) a.v a.out.now at.loop-c.out n) e at.loop-c.invariant.layers))
 
 pub slice_bounds-over-end : goal.slice_bounds-over-end
-slice_bounds-over-end c = sym c.loop-c.invariant.1
+slice_bounds-over-end c = sym c.loop-c.invariant.long
 
 pub slice_bounds-add_layer-end : goal.slice_bounds-add_layer-end
-slice_bounds-add_layer-end c = sym (c.over-stuck.ensures.0.size ∙ c.loop-c.invariant.1)
+slice_bounds-add_layer-end c = sym (c.over-stuck.ensures.0.size ∙ c.loop-c.invariant.long)
 
 pub shape_of-out : goal.shape_of-out
-shape_of-out c = c.loop-c.invariant.3.size
+shape_of-out c = c.loop-c.invariant.layers.size

@@ -1,6 +1,5 @@
 -- `marks::sweep::sweep` meets its contract: layer after layer, each over the one before it. Assumes nothing.
 use mathlib.Core.Path.{◌≡◌}
-use Prim.Native.Nat.{◌-◌, ◌≤◌}
 use lib.ListN.{length}
 use Rattle.mesh.specs.Cells.{map_of}
 use Rattle.marks.specs.Sweep.{prior, Holds, Layers}
@@ -8,8 +7,8 @@ use Rattle.marks.proofs.Rows.{shut_left}
 use Rattle.marks.proofs.sweep.sweep.Given as goal
 
 abbrev pub invariant-loop-c : goal.invariant-loop-c
-invariant-loop-c l = (l.c ≤ l.d) × (length l.rows ≡ 16) × Holds l.g (prior (map_of l.s l.cells) (shut_left (map_of l.s l.cells) l.o) l.c) l.rows
-    × Layers (map_of l.s l.cells) l.g (shut_left (map_of l.s l.cells) l.o) l.v l.initial.out l.out l.c
-
-abbrev pub decreases-loop-c : goal.decreases-loop-c
-decreases-loop-c l = l.d - l.c
+invariant-loop-c l = record {
+  long : length l.rows ≡ 16;
+  holds : Holds l.g (prior (map_of l.s l.cells) (shut_left (map_of l.s l.cells) l.o) l.c) l.rows;
+  layers : Layers (map_of l.s l.cells) l.g (shut_left (map_of l.s l.cells) l.o) l.v l.initial.out l.out l.c;
+}

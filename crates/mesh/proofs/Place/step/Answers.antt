@@ -7,21 +7,19 @@ use Rattle.mesh.specs.Mesh.{X, Y, Z, Inside}
 use Rattle.mesh.specs.Steps.{step_of, moved, together, next, along}
 use Rattle.mesh.specs.declared.Sizes.{Sizes}
 use Rattle.mesh.specs.declared.Place.{Place}
-use Rattle.mesh.specs.declared.Next.{Next}
-use Rattle.mesh.specs.declared.Moved.{Moved}
-use Rattle.mesh.specs.declared.Moved.TheVariants.{To}
 use Rattle.mesh.proofs.Steps.{next_x, next_y, next_z}
+use Rattle.std.specs.Prelude.{Some, Option}
 use Rattle.mesh.proofs.Place.step.Goals as goal
 
 -- for the direction that an arm knows, and what its calls found
-module _ (S : Sizes) (p : Place) (i : Inside S p) (down : Bool) (j : ℕ) (m : Moved) (r : Next) where
-  arm_x : j ≡ along X down → m ≡ moved p.x (step_of (along X down) 0) S.w → r ≡ together m (To p.y) (To p.z) → r ≡ next S p j
+module _ (S : Sizes) (p : Place) (i : Inside S p) (down : Bool) (j : ℕ) (m : Option ℕ) (r : Option Place) where
+  arm_x : j ≡ along X down → m ≡ moved p.x (step_of (along X down) 0) S.w → r ≡ together m (Some p.y) (Some p.z) → r ≡ next S p j
   arm_x e f g = g ∙ (rw (f, e) (next_x S p i down))
 
-  arm_y : j ≡ along Y down → m ≡ moved p.y (step_of (along Y down) 1) S.h → r ≡ together (To p.x) m (To p.z) → r ≡ next S p j
+  arm_y : j ≡ along Y down → m ≡ moved p.y (step_of (along Y down) 1) S.h → r ≡ together (Some p.x) m (Some p.z) → r ≡ next S p j
   arm_y e f g = g ∙ (rw (f, e) (next_y S p i down))
 
-  arm_z : j ≡ along Z down → m ≡ moved p.z (step_of (along Z down) 2) S.d → r ≡ together (To p.x) (To p.y) m → r ≡ next S p j
+  arm_z : j ≡ along Z down → m ≡ moved p.z (step_of (along Z down) 2) S.d → r ≡ together (Some p.x) (Some p.y) m → r ≡ next S p j
   arm_z e f g = g ∙ (rw (f, e) (next_z S p i down))
 
 pub returns-in_default : goal.returns-in_default

@@ -1,12 +1,9 @@
 -- `picture::drawing::columns` meets its contract. Assumes nothing.
-use Prim.Native.Nat.{◌+◌, ◌-◌}
+use Prim.Native.Nat.{◌*◌}
+use Rattle.text.specs.Text.{pieces, Added}
 use Rattle.picture.specs.Picture.{column_text}
-use Rattle.picture.specs.Room.{column_room, columns_room}
-use Rattle.text.proofs.Pieces.{Saying}
+use Rattle.picture.specs.Room.{column_room}
 use Rattle.picture.proofs.drawing.columns.Given as goal
 
 abbrev pub invariant-loop-a : goal.invariant-loop-a
-invariant-loop-a l = Saying (column_text l.x) column_room columns_room (l.x.steps + 1) l.initial.out l.at l.a l.out l.next
-
-abbrev pub decreases-loop-a : goal.decreases-loop-a
-decreases-loop-a l = l.x.steps + 1 - l.a
+invariant-loop-a g l = Added l.initial.page (pieces (column_text l.x) l.a) (column_room * l.a) l.page

@@ -1,6 +1,7 @@
 -- `picture::drawing::picture` meets its contract: the symbols of the map, drawn over the box between its ends. Assumes nothing.
-use mathlib.Core.Path.{◌≡◌, sym, ap, ◌∙◌}
+use mathlib.Core.Path.{◌≡◌, ap, ◌∙◌}
 use native.Mathlib.Omega.{arith}
+use Rattle.std.proofs.Common.{rules}
 use lib.ListN.{length, take}
 use Rattle.mesh.specs.Mesh.{nodes, place_of}
 use Rattle.mesh.specs.Cells.{map_of}
@@ -8,69 +9,67 @@ use Rattle.rows.specs.Box.{Held}
 use Rattle.rows.proofs.Box.{in_largest}
 use Rattle.sweeps.proofs.Runs.{held}
 use Rattle.routes.proofs.Ends.{ends_granted}
-use Rattle.text.proofs.Saying.{said_as, said_then}
+use Rattle.text.proofs.Adding.{added_then, added_as}
 use Rattle.picture.specs.Picture.{symbols}
-use Rattle.picture.specs.Room.{ends_room, layers_room}
 use Rattle.picture.proofs.Drawn.{symbols_length, drawn_taken, picture_is}
 use Rattle.picture.proofs.drawing.picture.Goals as goal
+use Rattle.picture.proofs.drawing.picture.Given.{Over}
 use Rattle.picture.proofs.drawing.picture.Goals.{After-between-g, After-nodes-n}
 
 -- the symbols, and the box
-drawn_is : (c : After-nodes-n) →
+drawn_is : (g : Over) (c : After-nodes-n g) →
     let a = c.args in
     take c.nodes-n.result c.draw.new.drawn ≡ symbols (map_of a.s a.cells.now) a.start a.end
-drawn_is c =
+drawn_is g c =
     let a = c.args in
     drawn_taken (map_of a.s a.cells.now) a.start a.end c.nodes-n.result _ c.draw.new.drawn
     c.nodes-n.ensures.0 c.draw.ensures
 
-drawn_whole : (c : After-nodes-n) →
+drawn_whole : (g : Over) (c : After-nodes-n g) →
     let a = c.args in
     length (take c.nodes-n.result c.draw.new.drawn) ≡ nodes a.s
-drawn_whole c =
+drawn_whole g c =
     let a = c.args in
-    ap length (drawn_is c) ∙ symbols_length (map_of a.s a.cells.now) a.start a.end
+    ap length (drawn_is g c) ∙ symbols_length (map_of a.s a.cells.now) a.start a.end
 
-box_held : (c : After-between-g) →
+box_held : (g : Over) (c : After-between-g g) →
     let a = c.args in
     Held a.s c.between-g.result
-box_held c =
+box_held g c =
     let a = c.args in
     let k = ends_granted a.s a.cells.now a.start a.end c.requires.0 in
     rw (c.between-g.ensures, c.place-u.ensures, c.place-v.ensures)
     (held a.s (place_of a.s a.start) (place_of a.s a.end) k.start_in k.end_in)
 
 pub nodes-n-requires : goal.nodes-n-requires
-nodes-n-requires c = (ends_granted c.args.s c.args.cells.now c.args.start c.args.end c.requires.0).sized
+nodes-n-requires g c = (ends_granted c.args.s c.args.cells.now c.args.start c.args.end c.requires.0).sized
 
 pub place-u-requires : goal.place-u-requires
-place-u-requires c = (ends_granted c.args.s c.args.cells.now c.args.start c.args.end c.requires.0).sized
+place-u-requires g c = (ends_granted c.args.s c.args.cells.now c.args.start c.args.end c.requires.0).sized
 
 pub place-v-requires : goal.place-v-requires
-place-v-requires c = (ends_granted c.args.s c.args.cells.now c.args.start c.args.end c.requires.0).sized
+place-v-requires g c = (ends_granted c.args.s c.args.cells.now c.args.start c.args.end c.requires.0).sized
 
 pub between-g-requires : goal.between-g-requires
-between-g-requires c =
+between-g-requires g c =
     let k = ends_granted c.args.s c.args.cells.now c.args.start c.args.end c.requires.0 in
     let a = c.args in
     rw (c.place-u.ensures, c.place-v.ensures)
     (in_largest a.s (place_of a.s a.start) k.sized k.start_in, in_largest a.s (place_of a.s a.end) k.sized k.end_in)
 
-pub slice_bounds-layers-end : goal.slice_bounds-layers-end
-slice_bounds-layers-end c =
-    c.nodes-n.ensures.0 ∙ sym (drawn_whole (goal.at.slice_bounds-layers-end c).After-nodes-n)
-
 pub layers-requires : goal.layers-requires
-layers-requires c = (
-  record { sized = (ends_granted c.args.s c.args.cells.now c.args.start c.args.end c.requires.0).sized; whole = drawn_whole (goal.at.layers-requires c).After-nodes-n; held = box_held (goal.at.layers-requires c).After-between-g },
-  omega (arith, c.requires.1, c.say_ends-head.ensures.1, c.say_ends-head.auto.out),
+layers-requires g c = (
+  search rules,
+  (
+    record { sized = (ends_granted c.args.s c.args.cells.now c.args.start c.args.end c.requires.0).sized; whole = drawn_whole g (goal.at.layers-requires g c).After-nodes-n; held = box_held g (goal.at.layers-requires g c).After-between-g },
+    omega arith,
+  ),
 )
 
 pub returns : goal.returns
-returns c =
+returns g c =
     let a = c.args in
-    let said = said_then ends_room layers_room (omega (arith, c.requires.1)) c.say_ends-head.ensures c.layers.ensures in
     let e = picture_is (map_of a.s a.cells.now) a.start a.end c.place-u.result c.place-v.result c.between-g.result
     (take c.nodes-n.result c.draw.new.drawn)
-    c.place-u.ensures c.place-v.ensures c.between-g.ensures (drawn_is (goal.at.returns c).After-nodes-n) in
-    (said_as e said.0, said.1)
+    c.place-u.ensures c.place-v.ensures c.between-g.ensures (drawn_is g (goal.at.returns g c).After-nodes-n) in
+    added_as e (added_then c.say_ends.ensures c.layers.ensures)

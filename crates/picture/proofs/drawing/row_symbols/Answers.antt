@@ -2,29 +2,17 @@
 use mathlib.Core.Path.{ap}
 use mathlib.Core.List.{[], ◌∷◌, ◌++◌}
 use Prim.Native.Nat.{ℕ}
-use native.Mathlib.Omega.{arith}
 use lib.ListN.{get_or}
-use Rattle.rows.proofs.Box.{gone_lt}
 use Rattle.text.specs.Text.{ascii}
-use Rattle.text.proofs.Saying.{said_as, said_exact}
-use Rattle.text.proofs.Pieces.{saying_none, saying_more, saying_all}
+use Rattle.text.proofs.Adding.{added_no_piece, added_piece, added_as}
+use Rattle.picture.specs.Picture.{symbol_at}
 use Rattle.picture.proofs.drawing.row_symbols.Goals as goal
 
 pub loop-a-init : goal.loop-a-init
-loop-a-init c = let s = c.requires in saying_none (omega (arith, s.2)) s.3
-
-pub at-requires : goal.at-requires
-at-requires c = (c.requires.0, omega arith)
-
-pub bounds-drawn-at : goal.bounds-drawn-at
-bounds-drawn-at c =
-    omega (arith, c.at.ensures, gone_lt c.args.row _ c.requires.1 c.loop-a.a (omega arith))
+loop-a-init g c = added_no_piece (symbol_at c.args.drawn.now c.args.row) 3 c.args.page.now
 
 pub loop-a-preserved : goal.loop-a-preserved
-loop-a-preserved c =
+loop-a-preserved g c =
     let drawn = c.args.drawn.now in
     let symbol = ap (λ (n : ℕ). ascii "  " ++ get_or drawn n 0 ∷ []) c.at.ensures in
-    saying_more c.loop-a.invariant (omega arith) (said_exact (said_as symbol c.say-next.ensures))
-
-pub returns : goal.returns
-returns c = saying_all c.loop-a.invariant (omega arith)
+    added_piece (symbol_at drawn c.args.row) 3 c.loop-a.a c.loop-a.invariant (added_as symbol c.say.ensures)

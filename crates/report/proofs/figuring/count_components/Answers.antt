@@ -3,8 +3,7 @@ use mathlib.Core.Path.{ap, ◌∙◌}
 use Prim.Native.Nat.{ℕ}
 use Rattle.mesh.specs.Cells.{map_of}
 use Rattle.rules.specs.Marks.{marks_of}
-use Rattle.mesh.specs.Answers.{answer_value}
-use Rattle.mesh.specs.declared.Answer.{Answer}
+use Rattle.mesh.specs.Answers.{answer_value, Answer}
 use Rattle.touching.specs.Components.{how_many}
 use Rattle.touching.specs.Entry.{components_check}
 use Rattle.report.proofs.Granted.{components_granted}
@@ -16,6 +15,6 @@ returns c =
     let cells = c.args.cells.now in
     let o = c.args.o in
     let n = how_many S (marks_of (map_of S cells) o) in
-    c.compute-found.ensures.count
+    c.compute.ensures.count
     ∙ ap (λ (l : ℕ). answer_value (components_check S cells o l 4096) n) c.blank_table-table.ensures
     ∙ ap (λ (a : Answer). answer_value a n) (components_granted S cells c.requires.0 o c.requires.1)

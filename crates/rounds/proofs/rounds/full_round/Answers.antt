@@ -1,11 +1,10 @@
 -- `rounds::rounds::full_round` meets its contract: what the speakers of the first links hold has come. Assumes nothing.
-use mathlib.Core.Path.{◌≡◌, refl, sym, ap, ◌∙◌, subst⁻¹}
+use mathlib.Core.Path.{◌≡◌, sym, ap, ◌∙◌, subst⁻¹}
 use mathlib.Core.List.{List}
 use Prim.Native.Nat.{ℕ}
 use native.Mathlib.Omega.{arith}
 use Rattle.rounds.specs.Links.{links, saying, comes, Fit}
 use Rattle.rounds.specs.Rounds.{tells, full_round}
-use Rattle.rounds.proofs.Coming.{ready}
 use Rattle.rounds.proofs.Going.{tells_fit}
 use Rattle.rounds.proofs.Counted.{none_told, tell_more}
 use Rattle.rounds.proofs.rounds.full_round.Goals as goal
@@ -16,43 +15,26 @@ fit : (l : At-loop-link) → let a = l.args in Fit a.s a.o l.loop-link.state
 fit l =
     let s = l.before.before.before in
     let a = s.args in
-    subst⁻¹ (Fit a.s a.o) l.loop-link.invariant.2 (tells_fit a.s a.o a.state.now s.requires l.loop-link.link)
+    subst⁻¹ (Fit a.s a.o) l.loop-link.invariant (tells_fit a.s a.o a.state.now s.requires l.loop-link.link)
 
-pub saying-word-requires : goal.saying-word-requires
-saying-word-requires c =
-    (ready _ _ _ (fit (goal.at.saying-word-requires c).At-loop-link), omega (arith, c.links-link-end.ensures.0))
+pub loop-link-init : goal.loop-link-init
+loop-link-init c = none_told _ _ _
 
 pub come-requires : goal.come-requires
-come-requires c =
-    (fit (goal.at.come-requires c).At-loop-link, omega (arith, c.links-link-end.ensures.0))
+come-requires c = (fit (goal.at.come-requires c).At-loop-link, omega (arith, c.links-link-end.ensures.0))
 
 pub loop-link-preserved : goal.loop-link-preserved
 loop-link-preserved c =
     let a = c.args in
-    let i = c.loop-link.link in (
-      omega arith,
-      c.come.auto.state ∙ c.loop-link.invariant.1,
-      c.come.ensures
-          ∙ ap (λ (w : ℕ). comes a.s a.o i w c.loop-link.state) c.saying-word.ensures
-          ∙ ap (λ (t : List ℕ). comes a.s a.o i (saying a.s t i) t) c.loop-link.invariant.2
-          ∙ sym (tell_more a.s a.o a.state.now i),
-    )
+    let i = c.loop-link.link in
+    c.come.ensures
+    ∙ ap (λ (w : ℕ). comes a.s a.o i w c.loop-link.state) c.saying-word.ensures
+    ∙ ap (λ (t : List ℕ). comes a.s a.o i (saying a.s t i) t) c.loop-link.invariant
+    ∙ sym (tell_more a.s a.o a.state.now i)
 
 pub returns : goal.returns
 unfolding full_round
 returns c =
     let a = c.args in
     let e : c.loop-link.link ≡ links a.s = omega (arith, c.links-link-end.ensures.0) in
-    c.loop-link.invariant.2 ∙ ap (tells a.s a.o a.state.now) e
-
-pub links-link-end-requires : goal.links-link-end-requires
-links-link-end-requires c = c.requires.sized
-
-pub loop-link-init : goal.loop-link-init
-loop-link-init c = (omega arith, refl, none_told _ _ _)
-
-pub overflow_step-link : goal.overflow_step-link
-overflow_step-link c = omega (arith, c.links-link-end.ensures.2)
-
-pub shape_of-state : goal.shape_of-state
-shape_of-state c = c.loop-link.invariant.1
+    c.loop-link.invariant ∙ ap (tells a.s a.o a.state.now) e

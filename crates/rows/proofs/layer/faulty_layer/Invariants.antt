@@ -1,12 +1,8 @@
 -- `rows::layer::faulty_layer` meets its contract: row after row. Assumes nothing.
-use Prim.Native.Nat.{◌-◌, ◌≤◌}
 use Rattle.mesh.specs.Cells.{map_of}
 use Rattle.mesh.specs.Fill.{Filled}
 use Rattle.rows.specs.Box.{faulty_row}
 use Rattle.rows.proofs.layer.faulty_layer.Given as goal
 
 abbrev pub invariant-loop-b : goal.invariant-loop-b
-invariant-loop-b l = (l.b ≤ l.n) × Filled (λ i. i) (λ i. faulty_row (map_of l.s l.cells) l.g i l.c) l.initial.rows l.rows l.b
-
-abbrev pub decreases-loop-b : goal.decreases-loop-b
-decreases-loop-b l = l.n - l.b
+invariant-loop-b l = Filled (λ i. i) (λ i. faulty_row (map_of l.s l.cells) l.g i l.c) l.initial.row-items l.row-items l.b

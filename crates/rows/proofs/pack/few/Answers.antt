@@ -4,25 +4,20 @@ use Prim.Native.Nat.{◌+◌, ◌-◌, ◌<◌}
 use native.Mathlib.Omega.{arith}
 use Rattle.rows.specs.Row.{says}
 use Rattle.rows.proofs.Packs.{bit_lt, few_none, few_lt, few_more, few_all}
-use Rattle.rows.proofs.pack.few.Goals as goal
 use Rattle.rows.proofs.pack.few.Goals.{In-loop-k}
+use Rattle.rows.proofs.pack.few.Goals as goal
 
 small : (c : In-loop-k) → c.loop-k.bits < 32768
 small c =
     let a = c.args in
     let l = c.loop-k in
-    few_lt (λ i. says a.cells.now a.j a.down a.from (l.k + i)) a.w l.bits (a.w - l.k) l.invariant.1 (omega arith)
+    few_lt (λ i. says a.cells.now a.j a.down a.from (l.k + i)) a.w l.bits (a.w - l.k) l.invariant (omega arith)
 
 pub loop-k-init : goal.loop-k-init
-loop-k-init c = let a = c.args in (omega arith, sym (few_none (λ i. says a.cells.now a.j a.down a.from (a.w + i)) a.w 0))
+loop-k-init c = let a = c.args in sym (few_none (λ i. says a.cells.now a.j a.down a.from (a.w + i)) a.w 0)
 
 pub overflow_mul-bits : goal.overflow_mul-bits
 overflow_mul-bits c = record { fits = omega (arith, small (goal.at.overflow_mul-bits c).In-loop-k) }
-
-pub one-requires : goal.one-requires
-one-requires c =
-    let (j, p, h) = c.requires in
-    (j, record { starts = p.starts; low = λ e. omega (arith, p.low e); high = λ e. omega (arith, p.high e) })
 
 pub overflow_add-bits : goal.overflow_add-bits
 overflow_add-bits c =
@@ -34,10 +29,10 @@ pub loop-k-preserved : goal.loop-k-preserved
 loop-k-preserved c =
     let a = c.args in
     let l = c.loop-k in
-    (omega arith, few_more (says a.cells.now a.j a.down a.from) a.w l.bits l.k c.one.result (omega arith) l.invariant.0 l.invariant.1 c.one.ensures)
+    few_more (says a.cells.now a.j a.down a.from) a.w l.bits l.k c.one.result (omega arith) (omega arith) l.invariant c.one.ensures
 
 pub returns : goal.returns
 returns c =
     let a = c.args in
     let l = c.loop-k in
-    few_all (says a.cells.now a.j a.down a.from) a.w l.bits l.k (omega arith) l.invariant.1
+    few_all (says a.cells.now a.j a.down a.from) a.w l.bits l.k (omega arith) l.invariant

@@ -7,9 +7,8 @@ use Rattle.rows.proofs.unpack.eight.Goals.{After-spread}
 
 fits : (c : After-spread) → c.word.result + c.args.v * c.spread.result < 2 ^ 64
 fits c =
-    let s = c in
-    let a = s.args in
-    eight_lt a.out.now a.down a.bits a.v a.p _ _ c.word.ensures c.spread.ensures s.requires.2
+    let a = c.args in
+    eight_lt a.out.now a.down a.bits a.v a.p _ _ c.word.ensures c.spread.ensures c.requires.2
 
 pub returns : goal.returns
 returns c =

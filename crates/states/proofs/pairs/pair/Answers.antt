@@ -3,16 +3,8 @@ use mathlib.Core.Path.{◌≡◌, sym}
 use Prim.Native.Nat.{◌<◌}
 use Rattle.mesh.specs.Mesh.{nodes}
 use Rattle.mesh.specs.Steps.{neighbour}
-use Rattle.states.proofs.Around.{held}
 use Rattle.talk.proofs.State.{pair_is}
 use Rattle.states.proofs.pairs.pair.Goals as goal
-
-pub faulty-requires : goal.faulty-requires
-faulty-requires c = held c.args.s c.args.state.now c.requires.0 c.args.k c.requires.1
-
-pub faulty-requires-2 : goal.faulty-requires-2
-faulty-requires-2 c =
-    held c.args.s c.args.state.now c.requires.0 c.neighbour-q.result c.neighbour-q.ensures.1
 
 pub returns : goal.returns
 returns c =

@@ -1,10 +1,9 @@
 -- `sweeps::offers::ways` meets its contract: layer after layer. Assumes nothing.
-use mathlib.Core.Path.{◌≡◌, refl, sym, ◌∙◌}
+use mathlib.Core.Path.{refl, ◌∙◌}
 use Prim.Native.Nat.{◌+◌}
 use native.Mathlib.Omega.{arith}
-use lib.ListN.{length}
-use Rattle.mesh.specs.Mesh.{Inside}
 use Rattle.mesh.specs.Cells.{map_of}
+use Rattle.mesh.specs.Mesh.{Inside}
 use Rattle.rows.specs.Box.{largest, far, FaultyRows}
 use Rattle.rows.proofs.Box.{far_in}
 use Rattle.sweeps.proofs.RowSweep.{rows_ready, after_none, after_more, ways_more, ways_all}
@@ -15,43 +14,31 @@ small : (c : Start) → Inside largest (far c.args.g)
 small c = let r = c.requires.0 in far_in c.args.s c.args.g r.sized r.held
 
 -- what the layer's faulty nodes are
-told : (c : After-faulty_layer) → let a = c.args in
-    FaultyRows (map_of a.s a.cells.now) a.g c.loop-c.c c.faulty_layer.new.rows
+told : (c : After-faulty_layer) → let a = c.args in FaultyRows (map_of a.s a.cells.now) a.g c.loop-c.c c.faulty_layer.new.rows
 told c b h = c.faulty_layer.ensures.at b (omega arith)
-
-given : (c : After-faulty_layer) → length c.faulty_layer.new.rows ≡ 16
-given c = c.faulty_layer.ensures.size ∙ c.loop-c.invariant.2
-
-pub overflow_add-n : goal.overflow_add-n
-overflow_add-n c = omega (arith, small (goal.at.overflow_add-n c).Start)
-
-pub loop-c-init : goal.loop-c-init
-loop-c-init c =
-    let s = c in
-    let a = s.args in
-    let t = small (goal.at.loop-c-init c).Start in (
-      omega arith,
-      rw c.seeded-rows.ensures,
-      refl,
-      after_none (map_of a.s a.cells.now) a.g c.seeded-rows.result (omega arith) c.seeded-rows.ensures,
-      λ h. absurd (omega arith),
-    )
 
 pub faulty_layer-requires : goal.faulty_layer-requires
 faulty_layer-requires c =
-    let s = c in
-    (s.requires.0, s.requires.1, omega arith, omega (arith, small (goal.at.faulty_layer-requires c).Start, c.loop-c.invariant.2))
+    let r = c.requires in
+    (r.0, r.1, omega arith, omega (arith, small (goal.at.faulty_layer-requires c).Start, c.loop-c.invariant.given))
 
 pub over-w-requires : goal.over-w-requires
 over-w-requires c =
+    let a = c.args in
     let l = c.loop-c in
-    let s = c in
-    let a = s.args in
-    rows_ready (map_of a.s a.cells.now) a.g l.c c.faulty_layer.new.rows l.rows s.requires.0 (told (goal.at.over-w-requires c).After-faulty_layer) (given (goal.at.over-w-requires c).After-faulty_layer)
-    l.invariant.1
+    rows_ready (map_of a.s a.cells.now) a.g l.c c.faulty_layer.new.rows l.rows c.requires.0 (told (goal.at.over-w-requires c).After-faulty_layer)
+    (c.faulty_layer.ensures.size ∙ l.invariant.given) l.invariant.long
 
-pub overflow_add-c : goal.overflow_add-c
-overflow_add-c c = omega (arith, small (goal.at.overflow_add-c c).Start)
+pub loop-c-init : goal.loop-c-init
+loop-c-init c =
+    let a = c.args in
+    let t = small (goal.at.loop-c-init c).Start in
+    record {
+      long = rw c.seeded-rows.ensures;
+      given = refl;
+      after = after_none (map_of a.s a.cells.now) a.g c.seeded-rows.result (omega arith) c.seeded-rows.ensures;
+      ways = λ h. absurd (omega arith);
+    }
 
 pub loop-c-preserved : goal.loop-c-preserved
 loop-c-preserved c =
@@ -59,25 +46,16 @@ loop-c-preserved c =
     let l = c.loop-c in
     let m = map_of a.s a.cells.now in
     let rows = c.over-w.new.rows in
-    let L = c.over-w.ensures.1 m (omega arith) (told (goal.at.loop-c-preserved c).After-faulty_layer) in (
-      omega arith,
-      c.over-w.ensures.0 ∙ l.invariant.1,
-      given (goal.at.loop-c-preserved c).After-faulty_layer,
-      after_more m a.g l.c (l.c + 1) l.rows rows L.over l.invariant.3,
-      ways_more m a.g l.c l.rows rows c.over-w.result L l.invariant.3,
-    )
+    let L = c.over-w.ensures.1 m (omega arith) (told (goal.at.loop-c-preserved c).After-faulty_layer) in
+    record {
+      long = c.over-w.ensures.0 ∙ l.invariant.long;
+      given = c.faulty_layer.ensures.size ∙ l.invariant.given;
+      after = after_more m a.g l.c (l.c + 1) l.rows rows L.over l.invariant.after;
+      ways = ways_more m a.g l.c l.rows rows c.over-w.result L l.invariant.after;
+    }
 
 pub returns : goal.returns
 returns c =
-    let l = c.loop-c in
     let a = c.args in
-    ways_all (map_of a.s a.cells.now) a.g l.c l.w (omega arith) l.invariant.4
-
-pub slice_bounds-faulty_layer-end : goal.slice_bounds-faulty_layer-end
-slice_bounds-faulty_layer-end c = sym c.loop-c.invariant.2
-
-pub slice_bounds-over-end : goal.slice_bounds-over-end
-slice_bounds-over-end c = sym (given (goal.at.slice_bounds-over-end c).After-faulty_layer)
-
-pub slice_bounds-over-end-in-loop-c : goal.slice_bounds-over-end-in-loop-c
-slice_bounds-over-end-in-loop-c c = sym c.loop-c.invariant.1
+    let l = c.loop-c in
+    ways_all (map_of a.s a.cells.now) a.g l.c l.w (omega arith) l.invariant.ways

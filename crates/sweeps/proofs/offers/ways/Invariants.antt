@@ -1,13 +1,14 @@
 -- `sweeps::offers::ways` meets its contract: layer after layer. Assumes nothing.
 use mathlib.Core.Path.{◌≡◌}
-use Prim.Native.Nat.{◌-◌, ◌≤◌}
 use lib.ListN.{length}
 use Rattle.mesh.specs.Cells.{map_of}
 use Rattle.sweeps.specs.Sweep.{After, WaysAfter}
 use Rattle.sweeps.proofs.offers.ways.Given as goal
 
 abbrev pub invariant-loop-c : goal.invariant-loop-c
-invariant-loop-c l = (l.c ≤ l.n) × (length l.rows ≡ 16) × (length l.faulty ≡ 16) × After (map_of l.s l.cells) l.g l.c l.rows × WaysAfter (map_of l.s l.cells) l.g l.c l.w
-
-abbrev pub decreases-loop-c : goal.decreases-loop-c
-decreases-loop-c l = l.n - l.c
+invariant-loop-c l = record {
+  long : length l.rows ≡ 16;
+  given : length l.faulty ≡ 16;
+  after : After (map_of l.s l.cells) l.g l.c l.rows;
+  ways : WaysAfter (map_of l.s l.cells) l.g l.c l.w;
+}

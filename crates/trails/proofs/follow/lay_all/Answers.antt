@@ -1,8 +1,7 @@
 -- `trails::follow::lay_all` meets its contract: layer after layer. Assumes nothing.
-use mathlib.Core.Path.{◌≡◌, refl, sym, ◌∙◌, subst}
+use mathlib.Core.Path.{◌≡◌, refl, ◌∙◌, subst}
 use Prim.Native.Nat.{ℕ, ◌+◌}
 use native.Mathlib.Omega.{arith}
-use lib.ListN.{length}
 use Rattle.mesh.specs.Mesh.{Inside}
 use Rattle.mesh.specs.Cells.{map_of}
 use Rattle.rows.specs.Box.{largest, far, FaultyRows}
@@ -17,94 +16,57 @@ small : (c : Start) → Inside largest (far c.args.g)
 small c = let r = c.requires.0 in far_in c.args.s c.args.g r.sized r.held
 
 -- what the layer's faulty nodes are
-told : (c : After-faulty_layer) → let a = c.args in
-    FaultyRows (map_of a.s a.cells.now) a.g c.loop-c.c c.faulty_layer.new.rows
+told : (c : After-faulty_layer) → let a = c.args in FaultyRows (map_of a.s a.cells.now) a.g c.loop-c.c c.faulty_layer.new.rows
 told c b h = c.faulty_layer.ensures.at b (omega arith)
-
-given : (c : After-faulty_layer) → length c.faulty_layer.new.rows ≡ 16
-given c = c.faulty_layer.ensures.size ∙ c.loop-c.invariant.2
-
-pub overflow_add-n : goal.overflow_add-n
-overflow_add-n c = omega (arith, small (goal.at.overflow_add-n c).Start)
-
-pub loop-c-init : goal.loop-c-init
-loop-c-init c =
-    let s = c in
-    let a = s.args in
-    let m = map_of a.s a.cells.now in
-    let t = small (goal.at.loop-c-init c).Start in (
-      omega arith,
-      rw c.seeded-rows.ensures,
-      refl,
-      s.requires.2,
-      after_none m a.g c.seeded-rows.result (omega arith) c.seeded-rows.ensures,
-      λ h. absurd (omega arith),
-      table_none m a.g a.table.now,
-    )
 
 pub faulty_layer-requires : goal.faulty_layer-requires
 faulty_layer-requires c =
-    let s = c in
-    (s.requires.0, s.requires.1, omega arith, omega (arith, small (goal.at.faulty_layer-requires c).Start, c.loop-c.invariant.2))
+    let r = c.requires in
+    (r.0, r.1, omega arith, omega (arith, small (goal.at.faulty_layer-requires c).Start, c.loop-c.invariant.given))
 
 pub over-w-requires : goal.over-w-requires
 over-w-requires c =
+    let a = c.args in
     let l = c.loop-c in
-    let s = c in
-    let a = s.args in
-    rows_ready (map_of a.s a.cells.now) a.g l.c c.faulty_layer.new.rows l.rows s.requires.0 (told (goal.at.over-w-requires c).After-faulty_layer) (given (goal.at.over-w-requires c).After-faulty_layer)
-    l.invariant.1
+    rows_ready (map_of a.s a.cells.now) a.g l.c c.faulty_layer.new.rows l.rows c.requires.0 (told (goal.at.over-w-requires c).After-faulty_layer)
+    (c.faulty_layer.ensures.size ∙ l.invariant.given) l.invariant.long
+
+pub loop-c-init : goal.loop-c-init
+loop-c-init c =
+    let a = c.args in
+    let m = map_of a.s a.cells.now in
+    let t = small (goal.at.loop-c-init c).Start in
+    record {
+      long = rw c.seeded-rows.ensures;
+      given = refl;
+      after = after_none m a.g c.seeded-rows.result (omega arith) c.seeded-rows.ensures;
+      ways = λ h. absurd (omega arith);
+      laid = table_none m a.g a.table.now;
+    }
 
 pub lay-requires : goal.lay-requires
-lay-requires c =
-    let l = c.loop-c in
-    let t = small (goal.at.lay-requires c).Start in
-    (c.over-w.ensures.0 ∙ l.invariant.1, l.invariant.3, omega arith)
-
-pub overflow_add-c : goal.overflow_add-c
-overflow_add-c c = omega (arith, small (goal.at.overflow_add-c c).Start)
+lay-requires c = (c.over-w.ensures.0 ∙ c.loop-c.invariant.long, c.loop-c.auto.table ∙ c.requires.2, omega (arith, small (goal.at.lay-requires c).Start))
 
 pub loop-c-preserved : goal.loop-c-preserved
 loop-c-preserved c =
-    let w = c.lay in
-    let o = c.over-w in
+    let a = c.args in
     let l = c.loop-c in
-    let s = c in
-    let a = s.args in
     let m = map_of a.s a.cells.now in
-    let t = c.loop-c-test.true in
-    let k = small (goal.at.loop-c-preserved c).Start in
-    let rows = o.new.rows in
-    let L = o.ensures.1 m (omega (arith, t)) (told (goal.at.loop-c-preserved c).After-faulty_layer) in
-    let A = after_more m a.g l.c (l.c + 1) l.rows rows L.over l.invariant.4 in (
-      omega (arith, t),
-      o.ensures.0 ∙ l.invariant.1,
-      given (goal.at.loop-c-preserved c).After-faulty_layer,
-      w.ensures.size ∙ l.invariant.3,
-      A,
-      ways_more m a.g l.c l.rows rows o.result L l.invariant.4,
-      table_more m a.g (omega arith) l.c rows l.table w.new.table A w.ensures l.invariant.6,
-    )
-
-pub shape_of-table : goal.shape_of-table
-shape_of-table c = c.loop-c.invariant.3 ∙ sym c.requires.2
+    let rows = c.over-w.new.rows in
+    let L = c.over-w.ensures.1 m (omega arith) (told (goal.at.loop-c-preserved c).After-faulty_layer) in
+    let A = after_more m a.g l.c (l.c + 1) l.rows rows L.over l.invariant.after in
+    record {
+      long = c.over-w.ensures.0 ∙ l.invariant.long;
+      given = c.faulty_layer.ensures.size ∙ l.invariant.given;
+      after = A;
+      ways = ways_more m a.g l.c l.rows rows c.over-w.result L l.invariant.after;
+      laid = table_more m a.g (omega (arith, small (goal.at.loop-c-preserved c).Start)) l.c rows l.table c.lay.new.table A c.lay.ensures l.invariant.laid;
+    }
 
 pub returns : goal.returns
 returns c =
-    let l = c.loop-c in
     let a = c.args in
+    let l = c.loop-c in
     let m = map_of a.s a.cells.now in
     let e : l.c ≡ a.g.z.steps + 1 = omega arith in
-    (ways_all m a.g l.c l.w e l.invariant.5, subst (λ (i : ℕ). Table m a.g i l.table) e l.invariant.6)
-
-pub slice_bounds-faulty_layer-end : goal.slice_bounds-faulty_layer-end
-slice_bounds-faulty_layer-end c = sym c.loop-c.invariant.2
-
-pub slice_bounds-over-end : goal.slice_bounds-over-end
-slice_bounds-over-end c = sym (given (goal.at.slice_bounds-over-end c).After-faulty_layer)
-
-pub slice_bounds-over-end-in-loop-c : goal.slice_bounds-over-end-in-loop-c
-slice_bounds-over-end-in-loop-c c = sym c.loop-c.invariant.1
-
-pub slice_bounds-lay-end : goal.slice_bounds-lay-end
-slice_bounds-lay-end c = sym (c.over-w.ensures.0 ∙ c.loop-c.invariant.1)
+    (ways_all m a.g l.c l.w e l.invariant.ways, subst (λ (i : ℕ). Table m a.g i l.table) e l.invariant.laid)

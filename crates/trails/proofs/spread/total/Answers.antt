@@ -1,35 +1,40 @@
 -- `trails::spread::total` meets its contract: the sum of so many bits is no more than their number. Assumes nothing.
 use mathlib.Core.Path.{◌≡◌, refl, ◌∙◌, ap}
-use Prim.Native.Nat.{ℕ, ◌≤◌}
+use Prim.Native.Nat.{ℕ, ◌<◌, ◌≤◌}
 use native.Mathlib.Omega.{arith}
-use lib.ListN.{get_or}
+use lib.ListN.{get_or, take, length-take}
+use Rattle.std.proofs.lemmas.List.{get_or-take}
 use Rattle.mesh.specs.Tools.{sum}
 use Rattle.mesh.proofs.Tables.{sum_more}
 use Rattle.trails.proofs.spread.total.Goals as goal
-use Rattle.trails.proofs.spread.total.Goals.{In-loop-i}
+use Rattle.trails.proofs.spread.total.Goals.{In-loop-byte}
 
-bit_at : (c : In-loop-i) → get_or c.args.out.now c.loop-i.i 0 ≤ 1
-bit_at c = c.requires.2 c.loop-i.i (omega arith)
-
-pub loop-i-init : goal.loop-i-init
+pub loop-byte-init : goal.loop-byte-init
 unfolding sum
-loop-i-init c = (omega arith, refl, omega arith)
+loop-byte-init c = record { is = refl; few = omega arith }
 
-pub loop-i-preserved : goal.loop-i-preserved
-loop-i-preserved c =
-    let l = c.loop-i in
+-- the byte of a turn is one of the first n, so 0 or 1
+at : (c : In-loop-byte) → let k = c.loop-byte.byte-index in let a = c.args in
+    (get_or (take a.n a.out.now) k 0 ≡ get_or a.out.now k 0) × (get_or a.out.now k 0 ≤ 1)
+at c =
     let a = c.args in
-    (omega arith, omega (arith, sum_more l.i (λ k. get_or a.out.now k 0)), omega (arith, bit_at (goal.at.loop-i-preserved c).In-loop-i))
+    let k = c.loop-byte.byte-index in
+    let h : k < a.n = omega (arith, length-take a.n a.out.now) in
+    (get_or-take a.n a.out.now k 0 h, c.requires.2 k h)
+
+pub overflow_add-t : goal.overflow_add-t
+overflow_add-t c = omega (arith, at (goal.at.overflow_add-t c).In-loop-byte, length-take c.args.n c.args.out.now)
+
+pub loop-byte-preserved : goal.loop-byte-preserved
+loop-byte-preserved c =
+    let a = c.args in
+    let k = c.loop-byte.byte-index in
+    let (e, b) = at (goal.at.loop-byte-preserved c).In-loop-byte in
+    record { is = omega (arith, e, sum_more k (λ k. get_or a.out.now k 0)); few = omega (arith, e, b) }
 
 pub returns : goal.returns
 returns c =
     let a = c.args in
-    let l = c.loop-i in
-    let e : l.i ≡ a.n = omega arith in
-    l.invariant.1 ∙ ap (λ (n : ℕ). sum n (λ k. get_or a.out.now k 0)) e
-
-pub overflow_cast-t : goal.overflow_cast-t
-overflow_cast-t c = omega (arith, bit_at (goal.at.overflow_cast-t c).In-loop-i)
-
-pub overflow_add-t : goal.overflow_add-t
-overflow_add-t c = omega (arith, bit_at (goal.at.overflow_add-t c).In-loop-i)
+    let l = c.loop-byte in
+    let e : l.byte-index ≡ a.n = omega (arith, length-take a.n a.out.now) in
+    l.invariant.is ∙ ap (λ (n : ℕ). sum n (λ k. get_or a.out.now k 0)) e

@@ -1,14 +1,16 @@
 -- `trails::spread::write_reached` meets its contract: all bytes are 0, then the box's, and last the end's. Assumes nothing.
 use mathlib.Core.Path.{◌≡◌, sym, ap, ◌∙◌, subst}
 use mathlib.Core.Bool.{not, ◌||◌}
+use mathlib.Core.List.{◌++◌}
 use Prim.Native.Nat.{ℕ, ◌+◌}
 use native.Mathlib.Omega.{arith}
-use lib.ListN.{set, length-set}
+use lib.ListN.{set, drop}
 use lib.Dec.{eqb}
 use Rattle.mesh.specs.Tools.{bit}
 use Rattle.mesh.specs.Mesh.{nodes}
 use Rattle.mesh.specs.Cells.{map_of}
 use Rattle.mesh.specs.Fill.{Filled}
+use Rattle.mesh.proofs.Fill.{cleared}
 use Rattle.paths.specs.Differences.{hops}
 use Rattle.paths.specs.Paths.{leads}
 use Rattle.rows.specs.Box.{between, far}
@@ -21,7 +23,7 @@ use Rattle.rows.specs.declared.Between.{Between}
 use Rattle.trails.specs.Spread.{Spread}
 use Rattle.trails.proofs.Spreading.{end_ways, reached_written_lem}
 use Rattle.trails.proofs.spread.write_reached.Goals as goal
-use Rattle.trails.proofs.spread.write_reached.Goals.{After-clear, After-leads_on, After-spread-w, Start}
+use Rattle.trails.proofs.spread.write_reached.Goals.{After-fill, After-leads_on, After-spread-w, Start}
 
 -- the ways into the end, and what is shown, are those of the box from the start
 ways : (c : After-spread-w) → let s = c in c.spread-w.result ≡ ways_of (behind (map_of c.args.s c.args.cells.now) c.args.p c.args.e c.requires.0.start_in c.requires.0.end_in) (far (between s.args.p s.args.e))
@@ -33,17 +35,16 @@ ways c =
 shown : (c : After-spread-w) →
     let s = c in
     let g = between s.args.p s.args.e in
-    Spread (map_of c.args.s c.args.cells.now) g (g.z.steps + 1) c.clear.new.out c.spread-w.new.bytes
+    Spread (map_of c.args.s c.args.cells.now) g (g.z.steps + 1) (c.fill.new.self ++ drop c.nodes.result c.args.out.now) c.spread-w.new.bytes
 shown c =
     let s = c in
-    subst (λ (g : Between). Spread (map_of c.args.s c.args.cells.now) g (g.z.steps + 1) c.clear.new.out c.spread-w.new.bytes) c.between.ensures c.spread-w.ensures.1
+    subst (λ (g : Between). Spread (map_of c.args.s c.args.cells.now) g (g.z.steps + 1) (c.fill.new.self ++ drop c.nodes.result c.args.out.now) c.spread-w.new.bytes) c.between.ensures c.spread-w.ensures.1
 
-cleared : (c : After-clear) →
-    let s = c in
-    Filled (λ i. i) (λ i. 0) s.args.out.now c.clear.new.out (nodes s.args.s)
-cleared c =
-    let s = c in
-    subst (λ (n : ℕ). Filled (λ i. i) (λ i. 0) s.args.out.now c.clear.new.out n) c.nodes.ensures.0 c.clear.ensures
+blank : (c : After-fill) → let a = c.args in Filled (λ i. i) (λ i. 0) a.out.now (c.fill.new.self ++ drop c.nodes.result a.out.now) (nodes a.s)
+blank c =
+    let a = c.args in
+    subst (Filled (λ i. i) (λ i. 0) a.out.now (c.fill.new.self ++ drop c.nodes.result a.out.now)) c.nodes.ensures.0
+    (cleared a.out.now c.fill.new.self c.nodes.result (omega (arith, c.requires.1)) (c.fill.ensures.after (λ y e. e)))
 
 asked : (h h' : ℕ) (w : Ways) → h ≡ h' → (eqb h 0 || not (eqb (w.x + w.y + w.z) 0)) ≡ (eqb h' 0 || not (eqb (w.x + w.y + w.z) 0))
 asked h h' w e = rw e
@@ -68,8 +69,8 @@ spread-w-requires c =
       rw c.between.ensures
           (record { sized = p.sized; whole = p.whole; held = held a.s a.p a.e p.start_in p.end_in }),
       p.good,
-      omega (arith, (cleared (goal.at.spread-w-requires c).After-clear).size, s.requires.1),
-      (cleared (goal.at.spread-w-requires c).After-clear).at,
+      omega (arith, (blank (goal.at.spread-w-requires c).After-fill).size, s.requires.1),
+      (blank (goal.at.spread-w-requires c).After-fill).at,
     )
 
 pub leads_on-requires : goal.leads_on-requires
@@ -78,14 +79,11 @@ leads_on-requires c =
     let s = c in
     ways_le w.spread-w.result (behind (map_of c.args.s c.args.cells.now) c.args.p c.args.e c.requires.0.start_in c.requires.0.end_in) (far (between s.args.p s.args.e)) (ways (goal.at.leads_on-requires c).After-spread-w)
 
-pub shape_of-out : goal.shape_of-out
-shape_of-out c = length-set c.spread-w.new.bytes c.number.result (bit c.leads_on.result) ∙ c.spread-w.auto.bytes ∙ c.clear.auto.out
-
 pub returns : goal.returns
 returns c =
     let w = c in
     let s = c in
     ap (λ (k : ℕ). set w.spread-w.new.bytes k (bit c.leads_on.result)) c.number.ensures.0
     ∙ reached_written_lem (map_of c.args.s c.args.cells.now) s.args.p s.args.e s.requires.0.start_in s.requires.0.end_in s.requires.0.end_may
-    s.args.out.now w.clear.new.out w.spread-w.new.bytes s.requires.1 (cleared (goal.at.returns c).After-clear) (shown (goal.at.returns c).After-spread-w)
+    s.args.out.now (c.fill.new.self ++ drop c.nodes.result c.args.out.now) w.spread-w.new.bytes s.requires.1 (blank (goal.at.returns c).After-fill) (shown (goal.at.returns c).After-spread-w)
     (bit c.leads_on.result) (ap bit (told (goal.at.returns c).After-leads_on))

@@ -1,9 +1,0 @@
--- `grids::shade` meets its contract. Assumes nothing.
-use borrow.Author.Tests.{eq-eqb, ne_eqb}
-use Rattle.grids.proofs.shade.Goals as goal
-
-pub returns-then-mark-eq0 : goal.returns-then-mark-eq0
-returns-then-mark-eq0 c = rw (eq-eqb _ 0 c.if-mark-eq0.true)
-
-pub returns-else-mark-eq0 : goal.returns-else-mark-eq0
-returns-else-mark-eq0 c = rw (ne_eqb _ 0 c.if-mark-eq0.false)

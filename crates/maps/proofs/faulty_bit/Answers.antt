@@ -1,9 +1,0 @@
--- `maps::faulty_bit` meets its contract: each arm gives the bit of its test. Assumes nothing.
-use mathlib.Core.Path.{◌∙◌, sym}
-use Rattle.maps.proofs.faulty_bit.Goals as goal
-
-pub returns-then-faulty_cell : goal.returns-then-faulty_cell
-returns-then-faulty_cell c = rw (sym c.faulty_cell.ensures ∙ c.if-faulty_cell.true)
-
-pub returns-else-faulty_cell : goal.returns-else-faulty_cell
-returns-else-faulty_cell c = rw (sym c.faulty_cell.ensures ∙ c.if-faulty_cell.false)
