@@ -29,10 +29,7 @@ fn grid_of(s: Sizes, cells: &[u8], orientation: usize, grid: &mut Grid) -> Resul
 fn layers(checked: Result<(), Refusal>, d: usize) -> usize
     ensures { result ≡ answer_value checked d }
 {
-    match checked {
-        Ok(()) => d,
-        Err(_) => 0,
-    }
+    checked.map_or(0, |()| d)
 }
 
 // The table, if the map is in order and there is room for it and for as many records as there are: refusal 3.

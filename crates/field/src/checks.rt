@@ -1,10 +1,11 @@
 // The checks before the calls on a state. Each takes every input.
-ghost use Rattle.std.specs.Prelude.{◌≡◌};
+ghost use Rattle.std.specs.Prelude.{◌≡◌, IfOk};
 ghost use Rattle.mesh.specs.Answers.{◌and_then◌, unless, check_orientation, check_node, check_direction};
+ghost use Rattle.maps.specs.Shelf.{checked};
 ghost use Rattle.rules.specs.Marks.{is_word};
 ghost use Rattle.talk.specs.Entries.{check_state, check_word, fresh_answer};
 
-use maps::check_map;
+use maps::shelf::Shelf;
 use mesh::{Refusal, Sizes};
 use states::bytes::state_length;
 
@@ -12,7 +13,7 @@ use states::bytes::state_length;
 pub(crate) fn unless(ok: bool, r: Refusal) -> Result<(), Refusal>
     ensures { result ≡ unless ok r }
 {
-    if ok { Ok(()) } else { Err(r) }
+    ok.then_some(()).ok_or(r)
 }
 
 // Refusals 1 and 2, for a state of so many bytes.
@@ -26,14 +27,20 @@ fn check_state(s: Sizes, long: usize) -> Result<(), Refusal>
     unless(long == state_length(s), Refusal::BadLength)
 }
 
-// Refusals 1, 2, 4 and 5, for a room of so many bytes.
+// Refusals 1, 2, 4 and 5, for a room of so many bytes; else the map as a shelf.
 #[tactic(auto, unfolding(talk::specs::Entries::fresh_answer))]
-pub(crate) fn check_fresh(s: Sizes, cells: &[u8], o: usize, room: usize) -> Result<(), Refusal>
-    ensures { result ≡ fresh_answer s cells.now o room }
+pub(crate) fn check_fresh<'a>(
+    s: Sizes,
+    cells: &'a [u8],
+    o: usize,
+    room: usize,
+) -> Result<Shelf<'a>, Refusal>
+    ensures { (checked result ≡ fresh_answer s cells.now o room) × IfOk result (λ a. (a.sizes ≡ s) × (a.cells.now ≡ cells.now)) }
 {
     check_state(s, room)?;
-    check_map(s, cells)?;
-    unless(o <= 7, Refusal::BadNumber)
+    let shelf = Shelf::of(s, cells)?;
+    unless(o <= 7, Refusal::BadNumber)?;
+    Ok(shelf)
 }
 
 // Refusals 1, 2 and 5, for a question about a state of so many bytes.
@@ -49,7 +56,7 @@ pub(crate) fn check_question(s: Sizes, o: usize, long: usize) -> Result<(), Refu
 fn is_word(word: usize) -> bool
     ensures { result ≡ is_word word }
 {
-    (word == 0) | (word == 2) | (word == 4) | (word == 6)
+    matches!(word, 0 | 2 | 4 | 6)
 }
 
 // The numbers of a call of hear: refusals 1, 2 and 5.

@@ -18,8 +18,8 @@ pub fn fresh(s: Sizes, cells: &[u8], orientation: usize, state: &mut [u8]) -> Re
     ensures value { result ≡ fresh_answer s cells.now orientation (length state.old) }
     ensures state_after { state.new ≡ fresh_out s cells.now orientation state.old }
 {
-    check_fresh(s, cells, orientation, state.len())?;
-    put_fresh(s, cells, orientation, state);
+    let shelf = check_fresh(s, cells, orientation, state.len())?;
+    put_fresh(&shelf, orientation, state);
     Ok(())
 }
 

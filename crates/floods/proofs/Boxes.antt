@@ -21,14 +21,6 @@ module _ (q : List ℕ) (axis : Axis) where
   abbrev at : ℕ → ℕ
   at t = on (place_at (get_or q t 0)) axis
 
-  ranged_one : (v : ℕ) → at 0 ≡ v → Ranged q 1 axis v v
-  ranged_one v e =
-      record {
-        within = λ t h. let z : t ≡ 0 = omega arith in rw (z, e) (omega arith, omega arith);
-        at_lo = (0, omega arith, e);
-        at_hi = (0, omega arith, e);
-      }
-
   ranged_more : (n lo hi v : ℕ) → at n ≡ v → Ranged q n axis lo hi → Ranged q (n + 1) axis (min lo v) (max hi v)
   ranged_more n lo hi v e r =
       record {

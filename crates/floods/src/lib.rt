@@ -10,7 +10,7 @@ mod recording;
 
 use touching::Component;
 
-// How many components there are, and their records, at the front of room for as many as a mesh can have: there are never more than 1,024.
+// How many components there are, and their records, at the front of room for as many as a mesh can have: there are never more than 1,024, and no heap is used.
 #[derive(Clone, Copy)]
 pub struct Found {
     pub count: usize,

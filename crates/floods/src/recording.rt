@@ -1,4 +1,4 @@
-// The record of a component, from the queue that holds its places.
+// The record of a component, from its places.
 ghost use Rattle.std.specs.Prelude.{◌≡◌, ℕ, ◌<◌, ◌≤◌, length, get_or};
 ghost use Rattle.mesh.specs.Mesh.{Axis, place};
 ghost use Rattle.grids.specs.Grid.{grid_size, place_at, Spot};

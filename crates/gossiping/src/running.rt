@@ -1,9 +1,15 @@
-// The little that is not proved: which bytes are read.
+// The program: of which bytes its text is, no contract says.
+ghost use Rattle.std.specs.Prelude.{ℕ, List, OnOk};
+ghost use Rattle.std.specs.Io.KnownBytes.{Appends};
+ghost use Rattle.gossiping.specs.Text.{gossip};
+
 use crate::texting::gossip;
 use std::io::{Read, Result, Write};
 use text::running::filter;
 
 // Reads a map file, and prints the text for it.
-pub fn run<R: Read, W: Write>(from: &mut R, out: &mut W) -> Result<()> {
+pub fn run<R: Read, W: Write>(from: &mut R, out: &mut W) -> Result<()>
+    ensures { OnOk result ((file : List ℕ) × Appends (W.contents out.old) (W.contents out.new) (gossip file)) }
+{
     filter(from, out, gossip)
 }

@@ -1,7 +1,6 @@
 // The rounds of one orientation, from the fresh state until nothing is outstanding.
 ghost use Rattle.std.specs.Prelude.{◌≡◌, suc, ◌+◌, ◌≤◌, length, replicate};
-ghost use Rattle.mesh.specs.Cells.{map_of};
-ghost use Rattle.mesh.specs.Answers.{check_map, accepted};
+ghost use Rattle.maps.specs.Shelf.{map_on};
 ghost use Rattle.talk.specs.Sound.{fresh};
 ghost use Rattle.talk.specs.Hear.{outstanding};
 ghost use Rattle.text.specs.Text.{Added};
@@ -12,6 +11,7 @@ ghost use Rattle.report.specs.Room.{line_room};
 ghost use Rattle.gossiping.specs.Room.{rounds_room};
 
 use crate::lines::round_line;
+use maps::shelf::Shelf;
 use mesh::Sizes;
 use rounds::chance::SEED;
 use rounds::figuring::{marks_held, news};
@@ -38,17 +38,17 @@ fn tell_round<const N: usize>(
 // A line for each round; how many rounds there were.
 pub(crate) fn talk<const N: usize>(
     page: &mut Page<N>,
-    s: Sizes,
-    cells: &[u8],
+    shelf: &Shelf,
     o: usize,
     state: &mut [u8],
     way: &mut [u8],
 ) -> usize
-    requires { (check_map s cells.now ≡ accepted) × (o ≤ 7) × (state.old ≡ fresh (map_of s cells.now) o)
-        × (way.old ≡ replicate (links s) 0) × (length page.old + rounds_room ≤ N) }
-    ensures { (result ≡ settled_at (map_of s cells.now) o)
-        × Added page.old (round_lines (map_of s cells.now) o (suc (settled_at (map_of s cells.now) o))) rounds_room page.new }
+    requires { (o ≤ 7) × (state.old ≡ fresh (map_on shelf.now) o)
+        × (way.old ≡ replicate (links shelf.now.sizes) 0) × (length page.old + rounds_room ≤ N) }
+    ensures { (result ≡ settled_at (map_on shelf.now) o)
+        × Added page.old (round_lines (map_on shelf.now) o (suc (settled_at (map_on shelf.now) o))) rounds_room page.new }
 {
+    let s = shelf.sizes;
     let mut drawn = SEED;
     let mut r = 0;
     while tell_round(page, s, o, r, state) != 0 {

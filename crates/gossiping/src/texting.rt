@@ -1,7 +1,7 @@
 // The text for a map file.
 ghost use Rattle.std.specs.Prelude.{◌≡◌, ◌+◌, ◌≤◌, length, replicate};
-ghost use Rattle.mesh.specs.Cells.{map_of, state_length};
-ghost use Rattle.mesh.specs.Answers.{check_map, accepted};
+ghost use Rattle.mesh.specs.Cells.{state_length};
+ghost use Rattle.maps.specs.Shelf.{map_on};
 ghost use Rattle.text.specs.Text.{Added};
 ghost use Rattle.report.specs.Report.{orientations};
 ghost use Rattle.rounds.specs.Links.{most_links};
@@ -13,7 +13,7 @@ use crate::talking::talk;
 use counts::count_faulty;
 use field::entry::fresh;
 use mapfile::reader::read_map;
-use mesh::Sizes;
+use maps::shelf::Shelf;
 use report::lines::{first_line, refusal_line};
 use report::reporting::orientations;
 use rounds::figuring::working;
@@ -29,45 +29,39 @@ fn blank_way() -> [u8; MOST_LINKS]
 }
 
 // The text of an orientation.
-fn octant_text<const N: usize>(
-    page: &mut Page<N>,
-    s: Sizes,
-    cells: &[u8],
-    o: usize,
-    state: &mut [u8],
-)
-    requires { (check_map s cells.now ≡ accepted) × (o ≤ 7) × (length state.old ≡ state_length s) × (length page.old + octant_room ≤ N) }
-    ensures { Added page.old (octant_text (map_of s cells.now) o) octant_room page.new }
+fn octant_text<const N: usize>(page: &mut Page<N>, shelf: &Shelf, o: usize, state: &mut [u8])
+    requires { (o ≤ 7) × (length state.old ≡ state_length shelf.now.sizes) × (length page.old + octant_room ≤ N) }
+    ensures { Added page.old (octant_text (map_on shelf.now) o) octant_room page.new }
 {
-    let _ = fresh(s, cells, o, state);
+    let _ = fresh(shelf.sizes, shelf.cells, o, state);
     let mut way = blank_way();
-    let n = links(s);
-    let w = working(s, cells);
+    let n = links(shelf.sizes);
+    let w = working(shelf);
     start_line(page, o, w);
-    let r = talk(page, s, cells, o, state, &mut way[..n]);
+    let r = talk(page, shelf, o, state, &mut way[..n]);
     settled_line(page, r, 2 * w + 1);
 }
 
 // The texts of all of them.
-fn octant_texts<const N: usize>(page: &mut Page<N>, s: Sizes, cells: &[u8], state: &mut [u8])
-    requires { (check_map s cells.now ≡ accepted) × (length state.old ≡ state_length s) × (length page.old + octants_room ≤ N) }
-    ensures { Added page.old (octant_texts (map_of s cells.now) (orientations s)) octants_room page.new }
+fn octant_texts<const N: usize>(page: &mut Page<N>, shelf: &Shelf, state: &mut [u8])
+    requires { (length state.old ≡ state_length shelf.now.sizes) × (length page.old + octants_room ≤ N) }
+    ensures { Added page.old (octant_texts (map_on shelf.now) (orientations shelf.now.sizes)) octants_room page.new }
 {
-    for o in 0..orientations(s) {
-        octant_text(page, s, cells, o, state);
+    for o in 0..orientations(shelf.sizes) {
+        octant_text(page, shelf, o, state);
     }
 }
 
-// The text for a map that is in order.
-fn map_text<const N: usize>(page: &mut Page<N>, s: Sizes, cells: &[u8])
-    requires { (check_map s cells.now ≡ accepted) × (length page.old + gossip_room ≤ N) }
-    ensures { Added page.old (map_text (map_of s cells.now)) gossip_room page.new }
+// The text for a shelf.
+fn map_text<const N: usize>(page: &mut Page<N>, shelf: &Shelf)
+    requires { length page.old + gossip_room ≤ N }
+    ensures { Added page.old (map_text (map_on shelf.now)) gossip_room page.new }
 {
     let mut state = [0u8; 65536];
-    let long = state_length(s);
-    first_line(page, s, count_faulty(cells));
+    let long = state_length(shelf.sizes);
+    first_line(page, shelf.sizes, count_faulty(shelf.cells));
     legend(page);
-    octant_texts(page, s, cells, &mut state[..long]);
+    octant_texts(page, shelf, &mut state[..long]);
 }
 
 // The text for a file. A refusal is told as the report tells it.
@@ -79,7 +73,11 @@ pub(crate) fn gossip(file: &[u8]) -> Page<65536>
     match read_map(file, &mut cells) {
         Ok(s) => {
             let n = s.nodes();
-            map_text(&mut page, s, &cells[..n]);
+            let shelf = Shelf {
+                sizes: s,
+                cells: &cells[..n],
+            };
+            map_text(&mut page, &shelf);
         }
         Err(r) => refusal_line(&mut page, u32::from(r) as usize),
     }

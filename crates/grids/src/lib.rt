@@ -55,7 +55,7 @@ fn row_of(s: Sizes, y: usize, z: usize) -> Row
     Row { node, spot }
 }
 
-// A row of w marks that begins at node k goes into the grid at a spot. An index into the grid: of what an adapter of `iter_mut` wrote no proof knows.
+// A row of w marks that begins at node k goes into the grid at a spot. An index into the grid: of what a `zip` over `iter_mut` wrote no proof knows.
 fn lay_row(marks: &[u8], grid: &mut [u16], w: usize, k: usize, at: usize)
     requires { (k + w ≤ length marks.now) × (at + w ≤ length grid.old) }
     ensures { Filled (λ x. at + x) (λ x. shade (get_or marks.now (k + x) 0)) grid.old grid.new w }

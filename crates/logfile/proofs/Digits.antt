@@ -8,7 +8,6 @@ use borrow.Author.Tests.{lt-ltb, le-ltb}
 use lib.Dec.{ltb}
 use lib.ListN.{length, get_or, drop, drop_of_length-le}
 use lib.Seq.{drop-cons}
-use Rattle.mesh.proofs.Tests.{T-and, T-le, holds_true}
 use Rattle.logfile.specs.Log.{digit, read_from}
 use Rattle.std.specs.Prelude.{Some, None}
 

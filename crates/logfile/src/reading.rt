@@ -1,6 +1,6 @@
 // Reading a log of transfers: what a line says.
 ghost use Rattle.std.specs.Prelude.{◌≡◌, [], ◌+◌, ◌<◌, ◌≤◌, length, get_or, drop};
-ghost use Rattle.logfile.specs.Log.{blank, digit, stops, before, up_to, past, next_word, lines_of, number_of, entry_of};
+ghost use Rattle.logfile.specs.Log.{blank, stops, before, up_to, past, next_word, lines_of, number_of, entry_of};
 ghost use Rattle.logfile.specs.declared.Stop.TheVariants.{Feed};
 
 use crate::{Entry, Stop};
@@ -80,7 +80,7 @@ fn next_word(text: &[u8]) -> &[u8]
     past(Stop::Word, past(Stop::Blank, text))
 }
 
-// A word as a number of 32 bits.
+// A word as a number of 32 bits, digit by digit: std's `parse` would take a sign.
 fn number(word: &[u8]) -> Option<usize>
     ensures { result ≡ number_of word.now }
 {
@@ -105,12 +105,12 @@ pub fn entry(line: &[u8]) -> Entry
     ensures { result ≡ entry_of line.now }
 {
     let first = past(Stop::Word, up_to(Stop::Comment, line));
-    if first.len() == 0 {
+    if first.is_empty() {
         return Entry::Nothing;
     }
     let second = next_word(first);
     let rest = next_word(second);
-    if rest.len() != 0 {
+    if !rest.is_empty() {
         return Entry::NoPair;
     }
     let Some(start) = number(up_to(Stop::Blank, first)) else {

@@ -7,6 +7,8 @@ ghost use Rattle.mesh.specs.Mesh.{nodes};
 ghost use Rattle.mesh.specs.Cells.{faulty_cell, may_pass, may_end, bad_cell, first_bad};
 ghost use Rattle.mesh.specs.Answers.{check_map};
 
+pub mod shelf;
+
 use mesh::{Refusal, Sizes};
 
 // The greatest byte that is a cell.

@@ -2,9 +2,9 @@
 use mathlib.Core.Path.{◌≡◌, refl, sym, ◌∙◌, subst}
 use mathlib.Core.Bool.{Bool, true, false, cond}
 use mathlib.Core.List.{List}
-use Prim.Native.Nat.{ℕ, ◌+◌, ◌*◌}
+use Prim.Native.Nat.{ℕ, ◌+◌, ◌*◌, ◌≤◌}
 use native.Mathlib.Omega.{arith}
-use lib.ListN.{get_or}
+use lib.ListN.{length, get_or}
 use Rattle.mesh.specs.Tools.{bit}
 use Rattle.mesh.specs.Mesh.{nodes, number, place_of, Inside}
 use Rattle.mesh.specs.Steps.{reversed}
@@ -17,7 +17,7 @@ use Rattle.rules.specs.Entry.{marks_written}
 use Rattle.rules.proofs.Marks.{marks_length, marks_at}
 use Rattle.mesh.specs.declared.Sizes.{Sizes}
 use Rattle.mesh.specs.declared.Place.{Place}
-use Rattle.marks.specs.Sweep.{Room, Swept, Finished}
+use Rattle.marks.specs.Sweep.{Swept, Finished}
 
 module _ (S : Sizes) (cells : List ℕ) (o : ℕ) (old blank once twice new : List ℕ) (none : Filled (λ i. i) (λ i. 0) old blank (nodes S)) where
   abbrev m : Map
@@ -33,9 +33,9 @@ module _ (S : Sizes) (cells : List ℕ) (o : ℕ) (old blank once twice new : Li
         split true e = refl
         split false e = omega (arith, A.at p i e, B.at p i e, none.at (number S p) (number_lt S p i))
 
-    pub written : Room S cells old → new ≡ marks_written S cells o old
+    pub written : nodes S ≤ length old → new ≡ marks_written S cells o old
     unfolding marks_written
-    written R = front (marks_of m o) old new (nodes S) (marks_length m o) R.fits (F.size ∙ B.size ∙ A.size ∙ none.size)
+    written room = front (marks_of m o) old new (nodes S) (marks_length m o) room (F.size ∙ B.size ∙ A.size ∙ none.size)
         (λ k l.
         let p : Place = place_of S k in
         subst (λ (k : ℕ). get_or new k 0 ≡ get_or (marks_of m o) k 0) (number_of S k) (node_at p (place_in S k l) ∙ sym (marks_at m o p (place_in S k l))))

@@ -2,13 +2,13 @@
 -- is shut if it is faulty or stuck. No promise is stated in these words. Assumes nothing.
 use Rattle.std.specs.Prelude.{Bool, false, cond, not, ◌&&◌, ◌||◌, List, ◌≡◌, ℕ, zero, suc, ◌+◌, ◌-◌, ◌*◌, ◌<◌, ◌≤◌, length, get_or, replicate, ltb}
 use Rattle.mesh.specs.Tools.{bit}
-use Rattle.mesh.specs.Mesh.{X, Y, Z, place, nodes, number, InRange, Inside}
+use Rattle.mesh.specs.Mesh.{X, Y, Z, place, nodes, number, Inside}
 use Rattle.mesh.specs.Steps.{runs_down}
 use Rattle.mesh.specs.Cells.{Map, faulty, faulty_cell}
 use Rattle.mesh.specs.Fill.{Filled}
 use Rattle.rules.specs.Marks.{counted, stuck}
 use Rattle.rows.specs.Row.{bit_at}
-use Rattle.rows.specs.Box.{reach, Good, Within}
+use Rattle.rows.specs.Box.{reach, Within}
 use Rattle.mesh.specs.declared.Sizes.{Sizes}
 use Rattle.mesh.specs.declared.Place.{Place}
 use Rattle.rows.specs.declared.Run.{Run}
@@ -57,13 +57,6 @@ abbrev pub NoneStuck : Map → Between → ℕ → List ℕ → Type 0
 NoneStuck m g c rows = Holds g (λ a b. faulty m (reach g (place a b c))) rows
 
 -- ---- bytes
-
--- a map that was checked, and a byte for each node
-pub record Room (S : Sizes) (cells out : List ℕ) : Type 0 where
-  pub sized : InRange S
-  pub whole : length cells ≡ nodes S
-  pub good : Good S cells
-  pub fits : nodes S ≤ length out
 
 -- in the first n layers v is added to the byte of each working node that is shut. To that of a faulty one it may be added; no other byte changes.
 pub record Layers (m : Map) (g : Between) (shut : Place → Bool) (v : ℕ) (old new : List ℕ) (n : ℕ) : Type 0 where

@@ -1,12 +1,13 @@
 // Whether any node is stuck: a quick way out where no node has faulty ones ahead on every axis that counts.
 ghost use Rattle.std.specs.Prelude.{◌≡◌, false, cond, ◌+◌, ◌-◌, ◌≤◌, ◌<◌, length};
 ghost use Rattle.mesh.specs.Mesh.{Z, InRange, Inside, place, nodes, number};
-ghost use Rattle.mesh.specs.Cells.{map_of};
 ghost use Rattle.mesh.specs.declared.Place.{Place};
+ghost use Rattle.maps.specs.Shelf.{map_on};
 ghost use Rattle.rules.specs.Marks.{counted, stuck};
 ghost use Rattle.marks.specs.Stretches.{on_z, inner, Apart};
 
 use maps::faulty_bit;
+use maps::shelf::Shelf;
 use mesh::{Place, Sizes};
 
 // The coordinate z, 0 or 1, on Z; 0 where Z does not count.
@@ -58,15 +59,15 @@ fn meet(cells: &[u8], n: usize, p: usize, q: usize, r: usize) -> bool
 }
 
 // Has a node faulty ones ahead on every axis that counts? If not, no node is stuck in orientation o.
-pub(crate) fn any_blocked(s: Sizes, cells: &[u8], o: usize) -> bool
-    requires { InRange s × (length cells.now ≡ nodes s) }
-    ensures { result ≡ false → (p : Place) → Inside s p → stuck (map_of s cells.now) o p ≡ false }
+pub(crate) fn any_blocked(shelf: &Shelf, o: usize) -> bool
+    ensures { result ≡ false → (p : Place) → Inside shelf.now.sizes p → stuck (map_on shelf.now) o p ≡ false }
 {
+    let s = shelf.sizes;
     let x = o % 2;
     let y = o / 2 % 2;
     let z = on_z(s, o / 4 % 2);
     let p = s.number(Place { x: 1 - x, y, z });
     let q = s.number(Place { x, y: 1 - y, z });
     let r = ahead_z(s, x, y, z, q);
-    meet(cells, inner(s), p, q, r)
+    meet(shelf.cells, inner(s), p, q, r)
 }

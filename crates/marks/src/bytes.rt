@@ -11,7 +11,7 @@ fn mark_byte(cell: u8, marks: u8) -> u8
     if faulty_cell(cell) { 1 } else { marks }
 }
 
-// The byte of each faulty node becomes 1.
+// The byte of each faulty node becomes 1. By an index: of what a `zip` over `iter_mut` wrote no proof knows.
 pub(crate) fn finish(cells: &[u8], out: &mut [u8])
     requires { length cells.now ≤ length out.old }
     ensures { Finished cells.now out.old out.new (length cells.now) }

@@ -2,11 +2,12 @@
 // that all orientations are one case. Bit a of row b is 1 if the node a and b steps on is shut; each layer goes over the one before, in sixteen numbers.
 ghost use Rattle.std.specs.Prelude.{◌≡◌, ℕ, ◌+◌, ◌≤◌, ◌<◌, length, get_or, replicate};
 ghost use Rattle.mesh.specs.Mesh.{InRange, nodes};
-ghost use Rattle.mesh.specs.Cells.{map_of};
-ghost use Rattle.rows.specs.Box.{Good, Ready};
-ghost use Rattle.marks.specs.Sweep.{axis, whole, beyond, Over, NoneStuck, Room, Swept};
+ghost use Rattle.maps.specs.Shelf.{map_on};
+ghost use Rattle.rows.specs.Box.{Held};
+ghost use Rattle.marks.specs.Sweep.{axis, whole, beyond, Over, NoneStuck, Swept};
 
 use crate::blocked::any_blocked;
+use maps::shelf::Shelf;
 use mesh::Sizes;
 use rows::layer::{add_layer, faulty_layer};
 use rows::{Between, Run, sweep_row};
@@ -50,15 +51,16 @@ fn whole(s: Sizes, o: usize) -> Between
     }
 }
 
-// Layer c, over the layer before it; not 0 if one of its nodes is stuck.
-fn over(s: Sizes, cells: &[u8], g: Between, c: usize, rows: &mut [u16]) -> u16
-    requires { Ready s cells.now g × Good s cells.now × (length rows.old ≡ 16) × (c ≤ g.z.steps) }
-    ensures { Over (map_of s cells.now) g c rows.old rows.new (g.y.steps + 1)
-        × (result ≡ 0 → NoneStuck (map_of s cells.now) g c rows.new) }
+// Layer c, over the layer before it; not 0 if one of its nodes is stuck. `rows` goes by an index: of what a `zip` over `iter_mut` wrote no
+// proof knows.
+fn over(shelf: &Shelf, g: Between, c: usize, rows: &mut [u16]) -> u16
+    requires { Held shelf.now.sizes g × (length rows.old ≡ 16) × (c ≤ g.z.steps) }
+    ensures { Over (map_on shelf.now) g c rows.old rows.new (g.y.steps + 1)
+        × (result ≡ 0 → NoneStuck (map_on shelf.now) g c rows.new) }
 {
     let n = g.y.steps + 1;
     let mut faulty = [0u16; 16];
-    faulty_layer(s, cells, g, c, &mut faulty);
+    faulty_layer(shelf, g, c, &mut faulty);
     let mut last: u16 = 0;
     let mut stuck: u16 = 0;
     for (b, &dead) in faulty[..n].iter().enumerate() {
@@ -81,17 +83,18 @@ fn beyond(s: Sizes) -> [u16; 16]
 }
 
 // Adds v to the byte of each working node that is stuck in orientation o; layers without one are left out.
-pub(crate) fn sweep(s: Sizes, cells: &[u8], o: usize, v: u8, out: &mut [u8])
-    requires { Room s cells.now out.old × ((k : ℕ) → k < nodes s → get_or out.old k 0 + v ≤ 255) }
-    ensures { Swept (map_of s cells.now) o v out.old out.new }
+pub(crate) fn sweep(shelf: &Shelf, o: usize, v: u8, out: &mut [u8])
+    requires { (nodes shelf.now.sizes ≤ length out.old) × ((k : ℕ) → k < nodes shelf.now.sizes → get_or out.old k 0 + v ≤ 255) }
+    ensures { Swept (map_on shelf.now) o v out.old out.new }
 {
-    if !any_blocked(s, cells, o) {
+    if !any_blocked(shelf, o) {
         return;
     }
+    let s = shelf.sizes;
     let g = whole(s, o);
     let mut rows = beyond(s);
     for c in 0..s.d {
-        let stuck = over(s, cells, g, c, &mut rows);
+        let stuck = over(shelf, g, c, &mut rows);
         if stuck != 0 {
             add_layer(s, g, c, &rows, v, out);
         }

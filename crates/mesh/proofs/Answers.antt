@@ -22,7 +22,7 @@ use Rattle.std.specs.Prelude.{Ok, Err}
 
 -- ---- the first refusal stands
 
--- `let Answer::accepted = a else { return a; };` leaves the equation a ≡ Err r.
+-- What `?` passes on leaves the equation a ≡ Err r.
 pub stands : (a b : Answer) (r : Refusal) → a ≡ Err r → a and_then b ≡ Err r
 stands a b r e = rw e
 

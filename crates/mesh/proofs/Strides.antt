@@ -61,9 +61,6 @@ module _ (S : Sizes) (r : ℕ) where
   pub row_number : (x : ℕ) → number S (in_row x) ≡ x + S.w * r
   row_number x = ap (λ (n : ℕ). x + S.w * n) (mod-add-div r S.h)
 
-  pub row_in : 0 < S.h → r < S.h * S.d → (x : ℕ) → x < S.w → Inside S (in_row x)
-  row_in hh h x l = record { x_in = l; y_in = mod-lt r hh; z_in = (div-lt_iff_lt-mul hh).1 (rw (mul_comm S.d S.h) h) }
-
 -- a test of all nodes, and a sum over them, row by row
 pub all_rows : (w n : ℕ) (p : ℕ → Bool) → all (w * n) p ≡ all n λ r. all w λ x. p (x + w * r)
 all_rows w n p = bool_ext (all (w * n) p) (all n λ r. all w λ x. p (x + w * r))

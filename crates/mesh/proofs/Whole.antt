@@ -1,16 +1,16 @@
--- Small signed 32-bit numbers: what the machine computes with them is their sum, difference and negation in ℤ.
+-- Small signed 32-bit numbers: what the machine computes with them is their sum and difference in ℤ.
 -- Its tests tell the sign. `mag z` is z where z is not below 0, else -(z + 1). Assumes nothing.
 use mathlib.Core.Path.{◌≡◌, refl, sym}
 use mathlib.Core.Bool.{Bool, true, false, cond, true≢false}
 use Prim.Native.Nat.{ℕ, zero, suc, ◌-◌, ◌<◌, ◌≤◌, ◌^◌}
 use native.Mathlib.Omega.{arith}
 use native.Mathlib.Nat.{add-zero, sub-zero}
-use lib.IntN.{ℤ, pos, negsuc, ◌+ℤ◌, ◌-ℤ◌, neg_ℤ, nat_abs, sub_ℕ, +ℤ_idl}
-use lib.Signed.{mag, lt_z, non_neg}
-use lib.Dec.{T, ltb}
+use lib.IntN.{ℤ, pos, negsuc, ◌+ℤ◌, ◌-ℤ◌, sub_ℕ}
+use lib.Signed.{mag, lt_z}
+use lib.Dec.{ltb}
 use borrow.Author.Tests.{lt-ltb, ltb-true, ltb-false, le-ltb}
-use mir.Syntax.{w32, w64}
-use mir.Val.{Fits, SFits, to_z, of_z}
+use mir.Syntax.{w32}
+use mir.Val.{SFits, to_z, of_z}
 use mir.Facts.{to_z-of_z}
 
 -- a number that is small and not below 0, as the machine reads it
@@ -44,11 +44,6 @@ level (pos zero) e f = refl
 level (pos (suc n)) e f = let h = ltb-false 0 (suc n) e in absurd (omega arith)
 level (negsuc n) e f = absurd (true≢false f)
 
--- a number that is not below 0 fits a usize
-pub fits_u : (z : ℤ) → lt_z z (pos 0) ≡ false → mag z < 4096 → T (non_neg z) × Fits w64 (nat_abs z)
-fits_u (pos k) e h = (tt, record { fits = omega arith })
-fits_u (negsuc k) e h = absurd (true≢false e)
-
 -- ---- sums: a coordinate and a step
 
 pub mag_diff : (a b n : ℕ) → a < n → b ≤ n → mag (sub_ℕ a b) < n
@@ -76,22 +71,3 @@ sub_pos a (suc b) = refl
 
 pub diff_is : (a b : ℕ) → a < 16 → b < 16 → to_z w32 a -ℤ to_z w32 b ≡ sub_ℕ a b
 diff_is a b ha hb = rw (to_z_pos a (omega arith), to_z_pos b (omega arith)) (sub_pos a b)
-
--- ---- a negation, as `0 - d`
-
-pub neg_is : (z : ℤ) → mag z < 16 → pos 0 -ℤ to_z w32 (of_z w32 z) ≡ neg_ℤ z
-neg_is z h = rw (back z (omega arith)) (+ℤ_idl (neg_ℤ z))
-
-pub mag_neg : (z : ℤ) → mag z < 16 → mag (neg_ℤ z) < 4096
-mag_neg (pos zero) h = omega arith
-mag_neg (pos (suc n)) h = omega arith
-mag_neg (negsuc n) h = omega arith
-
-pub neg_fits : (z : ℤ) → mag z < 16 → lt_z z (pos 0) ≡ true → T (non_neg (neg_ℤ z)) × Fits w64 (nat_abs (neg_ℤ z))
-neg_fits (pos n) h e = let q = ltb-true n 0 e in absurd (omega arith)
-neg_fits (negsuc n) h e = (tt, record { fits = omega arith })
-
-pub abs_neg : (z : ℤ) → nat_abs (neg_ℤ z) ≡ nat_abs z
-abs_neg (pos zero) = refl
-abs_neg (pos (suc n)) = refl
-abs_neg (negsuc n) = refl

@@ -5,7 +5,7 @@ ghost use Rattle.mesh.specs.Steps.{step_of, moved, together, next};
 
 use crate::{Place, Sizes};
 
-// +X, -X, +Y, -Y, +Z, -Z. A direction is its number here, as in C and in the definition `next`.
+// +X, -X, +Y, -Y, +Z, -Z. A direction is its number, as in C and in the definition `next`; so are an orientation, a mark and a word (`marks_of`, `rule`, `hear_answer`).
 pub const STEPS: [[i32; 3]; 6] = [
     [1, 0, 0],
     [-1, 0, 0],

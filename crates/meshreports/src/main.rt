@@ -1,10 +1,18 @@
-// Prints the report on each file that an argument names, under its name. What `meshreport` prints is tried by it on many files in one run.
+// Prints the report on each file that an argument names, under its name. What `meshreport` prints is tried by it on many files in one run. `gossips` is
+// its twin: one function for both would be public, and no contract could say what it prints.
 #![tactic(auto)]
 
 use report::running::run;
 use std::io;
-use text::running::each_named;
+use text::running::{arg_count, open_named};
 
 fn main(rt: HostRuntime) -> io::Result<()> {
-    each_named(&rt, &mut rt.stdout(), &mut rt.stderr(), run)
+    let mut out = rt.stdout();
+    let mut err = rt.stderr();
+    for i in 1..arg_count(&rt) {
+        if let Some(mut file) = open_named(&rt, &mut out, &mut err, b"", i)? {
+            run(&mut file, &mut out)?;
+        }
+    }
+    Ok(())
 }

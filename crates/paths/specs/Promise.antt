@@ -62,7 +62,7 @@ module _ (S : Sizes) (cells : List ℕ) (s e : ℕ) where
     pub neighbours : (i : ℕ) → suc i < length l
         → (j : ℕ) × T (linked m (at (get_or l i 0)) j) × (next S (at (get_or l i 0)) j ≡ Some (at (get_or l (suc i) 0)))
 
-  -- Some each of its nodes but the last, the list goes on in the lowest-numbered direction in which a path to the end begins.
+  -- At each of its nodes but the last, the list goes on in the lowest-numbered direction in which a path to the end begins.
   abbrev pub TakesLowest : List ℕ → Type 0
   TakesLowest l = (i : ℕ) → suc i < length l → (j : ℕ) × (next S (at (get_or l i 0)) j ≡ Some (at (get_or l (suc i) 0)))
       × Begins (get_or l i 0) j × ((k : ℕ) → k < j → Begins (get_or l i 0) k → ⊥)

@@ -27,7 +27,7 @@ fn symbol(start: usize, end: usize, k: usize, seen: u8, cell: u8) -> u8
     if may_pass(cell) { b'.' } else { b'#' }
 }
 
-// Each byte of "what is reached" gives way to the symbol of its node.
+// Each byte of "what is reached" gives way to the symbol of its node. By an index: of what a `zip` over `iter_mut` wrote no proof knows.
 fn draw_over(cells: &[u8], start: usize, end: usize, drawn: &mut [u8])
     requires { length cells.now ≤ length drawn.old }
     ensures { Filled (λ i. i) (λ i. symbol_of start end i (get_or drawn.old i 0) (get_or cells.now i 0))

@@ -1,8 +1,7 @@
-// The figures of a map that is in order.
+// The figures of a shelf.
 ghost use Rattle.std.specs.Prelude.{◌≡◌, ◌≤◌, length};
-ghost use Rattle.mesh.specs.Cells.{map_of};
+ghost use Rattle.maps.specs.Shelf.{map_on};
 ghost use Rattle.rules.specs.Marks.{marks_of};
-ghost use Rattle.mesh.specs.Answers.{check_map, accepted};
 ghost use Rattle.touching.specs.Components.{how_many};
 ghost use Rattle.report.specs.Report.{figures_of};
 
@@ -10,8 +9,8 @@ use crate::Figures;
 use components::Found;
 use components::entry::compute;
 use counts::count_marked;
+use maps::shelf::Shelf;
 use marks::entry::marks;
-use mesh::Sizes;
 
 // Room for the table of components.
 fn blank_table() -> [u16; 4096]
@@ -21,27 +20,27 @@ fn blank_table() -> [u16; 4096]
 }
 
 // How many components there are.
-fn count_components(s: Sizes, cells: &[u8], o: usize) -> usize
-    requires { (check_map s cells.now ≡ accepted) × (o ≤ 7) }
-    ensures { result ≡ how_many s (marks_of (map_of s cells.now) o) }
+fn count_components(shelf: &Shelf, o: usize) -> usize
+    requires { o ≤ 7 }
+    ensures { result ≡ how_many shelf.now.sizes (marks_of (map_on shelf.now) o) }
 {
     let mut table = blank_table();
     let mut found = Found::none();
-    let _ = compute(s, cells, o, &mut table, 4096, &mut found);
+    let _ = compute(shelf.sizes, shelf.cells, o, &mut table, 4096, &mut found);
     found.count
 }
 
 // The figures of an orientation.
-pub(crate) fn figures(s: Sizes, cells: &[u8], o: usize) -> Figures
-    requires { (check_map s cells.now ≡ accepted) × (o ≤ 7) }
-    ensures { result ≡ figures_of (map_of s cells.now) o }
+pub(crate) fn figures(shelf: &Shelf, o: usize) -> Figures
+    requires { o ≤ 7 }
+    ensures { result ≡ figures_of (map_on shelf.now) o }
 {
     let mut marked = [0u8; 4096];
-    let _ = marks(s, cells, o, &mut marked);
-    let n = s.nodes();
+    let _ = marks(shelf.sizes, shelf.cells, o, &mut marked);
+    let n = shelf.sizes.nodes();
     let useless = count_marked(&marked[..n], 2);
     let cannot_reach = count_marked(&marked[..n], 4);
-    let components = count_components(s, cells, o);
+    let components = count_components(shelf, o);
     Figures {
         useless,
         cannot_reach,

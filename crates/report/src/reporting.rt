@@ -1,7 +1,6 @@
 // The report on a file, as text.
 ghost use Rattle.std.specs.Prelude.{◌≡◌, ◌+◌, ◌≤◌, length};
-ghost use Rattle.mesh.specs.Cells.{map_of};
-ghost use Rattle.mesh.specs.Answers.{check_map, accepted};
+ghost use Rattle.maps.specs.Shelf.{map_on};
 ghost use Rattle.text.specs.Text.{Added};
 ghost use Rattle.report.specs.Report.{orientations, octant_lines, map_report, report};
 ghost use Rattle.report.specs.Room.{octant_lines_room, report_room};
@@ -10,6 +9,7 @@ use crate::figuring::figures;
 use crate::lines::{first_line, octant_line, refusal_line};
 use counts::count_faulty;
 use mapfile::reader::read_map;
+use maps::shelf::Shelf;
 use mesh::Sizes;
 use text::Page;
 
@@ -22,22 +22,22 @@ pub fn orientations(s: Sizes) -> usize
 }
 
 // The lines of all orientations.
-fn octant_lines<const N: usize>(page: &mut Page<N>, s: Sizes, cells: &[u8])
-    requires { (check_map s cells.now ≡ accepted) × (length page.old + octant_lines_room ≤ N) }
-    ensures { Added page.old (octant_lines (map_of s cells.now) (orientations s)) octant_lines_room page.new }
+fn octant_lines<const N: usize>(page: &mut Page<N>, shelf: &Shelf)
+    requires { length page.old + octant_lines_room ≤ N }
+    ensures { Added page.old (octant_lines (map_on shelf.now) (orientations shelf.now.sizes)) octant_lines_room page.new }
 {
-    for o in 0..orientations(s) {
-        octant_line(page, o, figures(s, cells, o));
+    for o in 0..orientations(shelf.sizes) {
+        octant_line(page, o, figures(shelf, o));
     }
 }
 
-// The report on a map that is in order.
-fn map_report<const N: usize>(page: &mut Page<N>, s: Sizes, cells: &[u8])
-    requires { (check_map s cells.now ≡ accepted) × (length page.old + report_room ≤ N) }
-    ensures { Added page.old (map_report (map_of s cells.now)) report_room page.new }
+// The report on a shelf.
+fn map_report<const N: usize>(page: &mut Page<N>, shelf: &Shelf)
+    requires { length page.old + report_room ≤ N }
+    ensures { Added page.old (map_report (map_on shelf.now)) report_room page.new }
 {
-    first_line(page, s, count_faulty(cells));
-    octant_lines(page, s, cells);
+    first_line(page, shelf.sizes, count_faulty(shelf.cells));
+    octant_lines(page, shelf);
 }
 
 // The report on a file.
@@ -49,7 +49,11 @@ pub(crate) fn report(file: &[u8]) -> Page<65536>
     match read_map(file, &mut cells) {
         Ok(s) => {
             let n = s.nodes();
-            map_report(&mut page, s, &cells[..n]);
+            let shelf = Shelf {
+                sizes: s,
+                cells: &cells[..n],
+            };
+            map_report(&mut page, &shelf);
         }
         Err(r) => refusal_line(&mut page, u32::from(r) as usize),
     }

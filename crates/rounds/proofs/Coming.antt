@@ -22,9 +22,6 @@ module _ (S : Sizes) (o : ℕ) (s : List ℕ) (f : Fit S o s) where
   pub ranged : T (in_range S)
   ranged = (holds_true (in_range S)).1 (sizes_is S f.sized)
 
-  pub ready : Ready S s
-  ready = record { sized = f.sized; long = f.sound.long }
-
   pub hear_fit : (k j w : ℕ) → Fit S o (hear_out S o k j w s)
   hear_fit k j w =
       record {

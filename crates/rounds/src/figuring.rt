@@ -1,7 +1,6 @@
 // What is told of a map and of a state.
 ghost use Rattle.std.specs.Prelude.{◌≡◌, ◌≤◌};
-ghost use Rattle.mesh.specs.Answers.{check_map, accepted};
-ghost use Rattle.mesh.specs.Cells.{map_of};
+ghost use Rattle.maps.specs.Shelf.{map_on};
 ghost use Rattle.talk.specs.Hear.{outstanding};
 ghost use Rattle.talk.specs.Promise.{workers};
 ghost use Rattle.states.specs.Six.{Ready};
@@ -10,14 +9,14 @@ ghost use Rattle.rounds.specs.Figures.{how_many_marks, marks_held};
 
 use counts::count_faulty;
 use field::entry::outstanding;
+use maps::shelf::Shelf;
 use mesh::Sizes;
 
 // How many nodes work.
-pub fn working(s: Sizes, cells: &[u8]) -> usize
-    requires { check_map s cells.now ≡ accepted }
-    ensures { (result ≡ workers (map_of s cells.now)) × (result ≤ 4096) }
+pub fn working(shelf: &Shelf) -> usize
+    ensures { (result ≡ workers (map_on shelf.now)) × (result ≤ 4096) }
 {
-    s.nodes() - count_faulty(cells)
+    shelf.sizes.nodes() - count_faulty(shelf.cells)
 }
 
 // How much news is outstanding.

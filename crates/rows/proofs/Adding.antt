@@ -15,9 +15,6 @@ use Rattle.rows.specs.Bytes.{Takes, Added}
 use Rattle.rows.proofs.Box.{gone_row, spot_same, row_on}
 use Rattle.rows.specs.declared.Between.{Between}
 
-pub added_none : (S : Sizes) (g : Between) (c v : ℕ) (rows old : List ℕ) → AddedRows S g c v rows old old 0
-added_none S g c v rows old = record { at = λ a b la lb hb. absurd (omega arith); kept = λ i off. refl; size = refl }
-
 module _ (S : Sizes) (g : Between) (c : ℕ) (hc : c ≤ g.z.steps) (b : ℕ) (hb : b ≤ g.y.steps) (old : List ℕ) (R : Room S g old) where
   inside : (a i : ℕ) → a ≤ g.x.steps → i ≤ g.y.steps → Within g (place a i c)
   inside a i la li = record { x_le = la; y_le = li; z_le = hc }

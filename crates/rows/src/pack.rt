@@ -1,5 +1,5 @@
 // One bit of each cell of a row as a number: bit k is that of the node k steps on. Bit j of a cell is one property of its node; bit 0: faulty.
-ghost use Rattle.std.specs.Prelude.{◌≡◌, true, false, ℕ, ◌+◌, ◌-◌, ◌*◌, ◌/◌, ◌%◌, ◌^◌, ◌≤◌, ◌<◌, length, get_or};
+ghost use Rattle.std.specs.Prelude.{◌≡◌, ◌+◌, ◌-◌, ◌*◌, ◌/◌, ◌%◌, ◌^◌, ◌≤◌, ◌<◌, length, get_or};
 ghost use Rattle.mesh.specs.Tools.{bit};
 ghost use Rattle.rows.specs.Row.{bit_at, packed, says, Span};
 ghost use Rattle.rows.specs.Bytes.{joined};

@@ -1,7 +1,6 @@
 // A row of bits to bytes: bit k is that of the node k steps on. Eight bytes are one word, in which no sum of two bytes goes over into the next.
-ghost use Rattle.std.specs.Prelude.{◌≡◌, true, false, ℕ, ◌+◌, ◌*◌, ◌/◌, ◌%◌, ◌^◌, ◌≤◌, ◌<◌, length, get_or};
+ghost use Rattle.std.specs.Prelude.{◌≡◌, ℕ, ◌+◌, ◌*◌, ◌/◌, ◌%◌, ◌≤◌, ◌<◌, length, get_or};
 ghost use Rattle.mesh.specs.Tools.{bit};
-ghost use Rattle.mesh.specs.Fill.{Filled};
 ghost use Rattle.rows.specs.Row.{bit_at, onwards, Span};
 ghost use Rattle.rows.specs.Bytes.{joined, turned, Takes, Added};
 

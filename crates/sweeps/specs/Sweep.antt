@@ -104,6 +104,12 @@ pub record Ends (S : Sizes) (cells : List ℕ) (p e : Place) : Type 0 where
   pub end_in : Inside S e
   pub end_may : T (may_end (cell_at (map_of S cells) e))
 
+-- the two ends of a route on a map
+pub record EndsOn (m : Map) (p e : Place) : Type 0 where
+  pub start_in : Inside m.sizes p
+  pub end_in : Inside m.sizes e
+  pub end_may : T (may_end (cell_at m e))
+
 -- the bit of a preferred direction, if the way is seen
 abbrev pub flag_of : Option ℕ → ℕ → ℕ
 flag_of (Some j) seen = seen * 2 ^ j

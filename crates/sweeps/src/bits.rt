@@ -8,7 +8,8 @@ ghost use Rattle.sweeps.specs.Sweep.{Layers, Layer, Rows, seed, seen_at};
 use crate::Ways;
 use rows::{Between, full, sweep_row};
 
-// Layer c, with these faulty nodes, over the layer before it. The corner is seen by itself, whether or not it may be passed.
+// Layer c, with these faulty nodes, over the layer before it. The corner is seen by itself, whether or not it may be passed. `rows` goes by
+// an index: of what a `zip` over `iter_mut` wrote no proof knows.
 fn sweep_rows(g: Between, c: usize, faulty: &[u16], rows: &mut [u16])
     requires { Rows g faulty.now rows.old }
     ensures { (length rows.new ≡ length rows.old)

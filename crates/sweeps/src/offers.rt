@@ -1,32 +1,33 @@
 // The offered set at the start of a route, from a sweep that begins at its end.
 ghost use Rattle.std.specs.Prelude.{◌≡◌, not, ◌||◌, ◌+◌, ◌≤◌, ◌<◌, eqb};
 ghost use Rattle.std.specs.Int.Signed.{mag};
-ghost use Rattle.mesh.specs.Cells.{map_of};
+ghost use Rattle.maps.specs.Shelf.{map_on};
 ghost use Rattle.paths.specs.Differences.{wanted};
 ghost use Rattle.paths.specs.Offered.{offered};
-ghost use Rattle.rows.specs.Box.{far, Good, Ready};
-ghost use Rattle.sweeps.specs.Sweep.{Ends, WaysTo, flag_of};
+ghost use Rattle.rows.specs.Box.{far, Held};
+ghost use Rattle.sweeps.specs.Sweep.{EndsOn, WaysTo, flag_of};
 
 use crate::Ways;
 use crate::bits::{over, seeded};
 use crate::boxes::between;
 use crate::signed::{difference, way};
-use mesh::{Place, Sizes};
+use maps::shelf::Shelf;
+use mesh::Place;
 use rows::Between;
 use rows::layer::faulty_layer;
 
 // The ways into the far corner of a box. The loops of `lay_all` and `spread` (trails) are its twins. One loop that takes a closure did not prove: of what a closure
 // that was passed on has written nothing is known. A function for a layer that all three call is not inlined, and dk_verdict took 7 to 20 % longer.
-fn ways(s: Sizes, cells: &[u8], g: Between) -> Ways
-    requires { Ready s cells.now g × Good s cells.now }
-    ensures { WaysTo (map_of s cells.now) g (far g) result }
+fn ways(shelf: &Shelf, g: Between) -> Ways
+    requires { Held shelf.now.sizes g }
+    ensures { WaysTo (map_on shelf.now) g (far g) result }
 {
     let n = g.z.steps + 1;
     let mut rows = seeded();
     let mut faulty = [0u16; 16];
     let mut w = Ways { x: 0, y: 0, z: 0 };
     for c in 0..n {
-        faulty_layer(s, cells, g, c, &mut faulty);
+        faulty_layer(shelf, g, c, &mut faulty);
         w = over(g, c, &faulty, &mut rows);
     }
     w
@@ -55,11 +56,11 @@ fn flag(up: usize, d: i32, seen: u8) -> u8
 }
 
 // The offered set at p on the way to e.
-pub fn offered(s: Sizes, cells: &[u8], p: Place, e: Place) -> u8
-    requires { Ends s cells.now p e }
-    ensures { result ≡ offered (map_of s cells.now) e p }
+pub fn offered(shelf: &Shelf, p: Place, e: Place) -> u8
+    requires { EndsOn (map_on shelf.now) p e }
+    ensures { result ≡ offered (map_on shelf.now) e p }
 {
-    let w = ways(s, cells, between(e, p));
+    let w = ways(shelf, between(e, p));
     flag(0, difference(p.x, e.x), w.x)
         + flag(2, difference(p.y, e.y), w.y)
         + flag(4, difference(p.z, e.z), w.z)

@@ -21,7 +21,7 @@ pub(crate) fn size(d: i32) -> usize
     requires { mag d < 16 }
     ensures { (result ≡ nat_abs d) × (result ≤ 16) }
 {
-    if d < 0 { (0 - d) as usize } else { d as usize }
+    d.unsigned_abs() as usize
 }
 
 // The direction that lowers a difference: `up` or the one after it, or none.

@@ -3,13 +3,13 @@
 
 pub mod running;
 
-ghost use Rattle.std.specs.Prelude.{◌≡◌, ◌+◌, ◌*◌, ◌≤◌, [], ◌++◌, length};
+ghost use Rattle.std.specs.Prelude.{◌≡◌, ◌+◌, ◌*◌, ◌≤◌, [], length};
 ghost use Rattle.text.specs.Text.{decimal, told, name_line, Added};
 
 use octets::put;
 use std::marker::Model;
 
-// A page with room for N bytes, and how many of them are written. A contract sees what is written.
+// A page with room for N bytes, and how many of them are written: no heap is used. A contract sees what is written.
 #[derive(Drop)]
 pub struct Page<const N: usize> {
     bytes: [u8; N],
@@ -78,7 +78,7 @@ impl<const N: usize> Page<N> {
         self.say(&digits[i..]);
     }
 
-    // Writes a form with its numbers.
+    // Writes a form with its numbers: a form and no `write!`, since definition (`told`) and code have the same words.
     pub fn tell(&mut self, form: &[u8], numbers: &[usize])
         requires { length self.old + (length form.now + 20 * length numbers.now) ≤ N }
         ensures { Added self.old (told form.now numbers.now) (length form.now + 20 * length numbers.now) self.new }

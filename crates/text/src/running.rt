@@ -84,23 +84,6 @@ pub fn open_named<R: Env + Files, W: Write, E: Write>(
     }
 }
 
-// Runs a program on each file that an argument names, under its name.
-pub fn each_named<R: Env + Files, W: Write, E: Write, F: Fn(&mut R::File, &mut W) -> Result<()>>(
-    rt: &R,
-    out: &mut W,
-    err: &mut E,
-    run: F,
-) -> Result<()>
-    requires { F.IsAlwaysCallable run }
-{
-    for i in 1..arg_count(rt) {
-        if let Some(mut file) = open_named(rt, out, err, b"", i)? {
-            run(&mut file, out)?;
-        }
-    }
-    Ok(())
-}
-
 // Reads until the lent bytes are full or the input ends; how many were read. An error is the reader's own, and leaves open what the bytes are.
 pub fn read_front<R: Read>(from: &mut R, file: &mut [u8]) -> Result<usize>
     ensures { IfOk result (λ n. n ≤ length file.new) }

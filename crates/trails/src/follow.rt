@@ -1,12 +1,13 @@
 // The route: the layers of a sweep from the end stand in a table, row b of layer c at 16 * c + b, and the way from the start goes through them.
 ghost use Rattle.std.specs.Prelude.{◌≡◌, ◌+◌, ◌*◌, ◌≤◌, ◌<◌, length, get_or};
 ghost use Rattle.mesh.specs.Mesh.{Inside, InRange, number};
-ghost use Rattle.mesh.specs.Cells.{map_of};
 ghost use Rattle.mesh.specs.Fill.{Filled};
-ghost use Rattle.rows.specs.Box.{largest, reach, far, Held, Good, Ready};
-ghost use Rattle.sweeps.specs.Sweep.{Ends, WaysTo};
+ghost use Rattle.maps.specs.Shelf.{map_on};
+ghost use Rattle.rows.specs.Box.{largest, reach, far, Held};
+ghost use Rattle.sweeps.specs.Sweep.{EndsOn, WaysTo};
 ghost use Rattle.trails.specs.Table.{Table, ways_in, nearest, trail, routed_answer, routed_out};
 
+use maps::shelf::Shelf;
 use mesh::{Place, Refusal, Sizes};
 use rows::Between;
 use rows::layer::faulty_layer;
@@ -23,7 +24,7 @@ fn blank() -> [u16; 256]
     [0u16; 256]
 }
 
-// The rows of layer c into the table.
+// The rows of layer c into the table, one by one: the edit `rows_across_the_table` turns the place of one row.
 fn lay(c: usize, rows: &[u16], table: &mut [u16])
     requires { (length rows.now ≡ 16) × (length table.old ≡ 256) × (c < 16) }
     ensures { Filled (λ b. 16 * c + b) (λ b. get_or rows.now b 0) table.old table.new 16 }
@@ -34,16 +35,16 @@ fn lay(c: usize, rows: &[u16], table: &mut [u16])
 }
 
 // Every layer of a box into the table, and the ways into the far corner. A loop of its own, as `ways` (sweeps) says.
-fn lay_all(s: Sizes, cells: &[u8], g: Between, table: &mut [u16]) -> Ways
-    requires { Ready s cells.now g × Good s cells.now × (length table.old ≡ 256) }
-    ensures { WaysTo (map_of s cells.now) g (far g) result × Table (map_of s cells.now) g (g.z.steps + 1) table.new }
+fn lay_all(shelf: &Shelf, g: Between, table: &mut [u16]) -> Ways
+    requires { Held shelf.now.sizes g × (length table.old ≡ 256) }
+    ensures { WaysTo (map_on shelf.now) g (far g) result × Table (map_on shelf.now) g (g.z.steps + 1) table.new }
 {
     let n = g.z.steps + 1;
     let mut rows = seeded();
     let mut faulty = [0u16; 16];
     let mut w = Ways { x: 0, y: 0, z: 0 };
     for c in 0..n {
-        faulty_layer(s, cells, g, c, &mut faulty);
+        faulty_layer(shelf, g, c, &mut faulty);
         w = over(g, c, &faulty, &mut rows);
         lay(c, &rows, table);
     }
@@ -93,28 +94,22 @@ fn follow(s: Sizes, g: Between, table: &[u16], n: usize, out: &mut [u16])
 }
 
 // The route from p to e: refusals 10 and 3.
-pub fn write_route(
-    s: Sizes,
-    cells: &[u8],
-    p: Place,
-    e: Place,
-    out: &mut [u16],
-) -> Result<usize, Refusal>
-    requires { Ends s cells.now p e }
-    ensures { (result ≡ routed_answer (map_of s cells.now) p e (length out.old))
-        × (out.new ≡ routed_out (map_of s cells.now) p e out.old) }
+pub fn write_route(shelf: &Shelf, p: Place, e: Place, out: &mut [u16]) -> Result<usize, Refusal>
+    requires { EndsOn (map_on shelf.now) p e }
+    ensures { (result ≡ routed_answer (map_on shelf.now) p e (length out.old))
+        × (out.new ≡ routed_out (map_on shelf.now) p e out.old) }
 {
     let h = hops(p, e);
     let n = h + 1;
     let g = between(e, p);
     let mut table = blank();
-    let w = lay_all(s, cells, g, &mut table);
+    let w = lay_all(shelf, g, &mut table);
     if !leads_on(h, w) {
         return Err(Refusal::NoPath);
     }
     if out.len() < n {
         return Err(Refusal::NoRoom);
     }
-    follow(s, g, &table, n, out);
+    follow(shelf.sizes, g, &table, n, out);
     Ok(n)
 }

@@ -2,13 +2,14 @@
 ghost use Rattle.std.specs.Prelude.{◌≡◌, ◌++◌, ◌+◌, ◌≤◌, length, get_or, drop};
 ghost use Rattle.mesh.specs.Tools.{sum};
 ghost use Rattle.mesh.specs.Mesh.{nodes};
-ghost use Rattle.mesh.specs.Cells.{map_of};
+ghost use Rattle.maps.specs.Shelf.{map_on};
 ghost use Rattle.paths.specs.Offered.{reached};
-ghost use Rattle.rows.specs.Box.{far, Good, Ready};
-ghost use Rattle.sweeps.specs.Sweep.{Ends, WaysTo};
+ghost use Rattle.rows.specs.Box.{far, Held};
+ghost use Rattle.sweeps.specs.Sweep.{EndsOn, WaysTo};
 ghost use Rattle.trails.specs.Spread.{Bits, Blank, Spread};
 
-use mesh::{Place, Sizes};
+use maps::shelf::Shelf;
+use mesh::Place;
 use rows::Between;
 use rows::layer::{add_layer, faulty_layer};
 use sweeps::Ways;
@@ -18,30 +19,30 @@ use sweeps::offers::leads_on;
 use sweeps::signed::hops;
 
 // Every layer of a box, each at its own nodes, and the ways into the far corner. A loop of its own, as `ways` (sweeps) says.
-fn spread(s: Sizes, cells: &[u8], g: Between, bytes: &mut [u8]) -> Ways
-    requires { Ready s cells.now g × Good s cells.now × (nodes s ≤ length bytes.old) × Blank s bytes.old }
-    ensures { WaysTo (map_of s cells.now) g (far g) result × Spread (map_of s cells.now) g (g.z.steps + 1) bytes.old bytes.new }
+fn spread(shelf: &Shelf, g: Between, bytes: &mut [u8]) -> Ways
+    requires { Held shelf.now.sizes g × (nodes shelf.now.sizes ≤ length bytes.old) × Blank shelf.now.sizes bytes.old }
+    ensures { WaysTo (map_on shelf.now) g (far g) result × Spread (map_on shelf.now) g (g.z.steps + 1) bytes.old bytes.new }
 {
     let n = g.z.steps + 1;
     let mut rows = seeded();
     let mut faulty = [0u16; 16];
     let mut w = Ways { x: 0, y: 0, z: 0 };
     for c in 0..n {
-        faulty_layer(s, cells, g, c, &mut faulty);
+        faulty_layer(shelf, g, c, &mut faulty);
         w = over(g, c, &faulty, &mut rows);
-        add_layer(s, g, c, &rows, 1, bytes);
+        add_layer(shelf.sizes, g, c, &rows, 1, bytes);
     }
     w
 }
 
 // The bytes of all nodes: what is reached from p on the way to e.
-pub fn write_reached(s: Sizes, cells: &[u8], p: Place, e: Place, out: &mut [u8])
-    requires { Ends s cells.now p e × (nodes s ≤ length out.old) }
-    ensures { out.new ≡ reached (map_of s cells.now) p e ++ drop (nodes s) out.old }
+pub fn write_reached(shelf: &Shelf, p: Place, e: Place, out: &mut [u8])
+    requires { EndsOn (map_on shelf.now) p e × (nodes shelf.now.sizes ≤ length out.old) }
+    ensures { out.new ≡ reached (map_on shelf.now) p e ++ drop (nodes shelf.now.sizes) out.old }
 {
-    out[..s.nodes()].fill(0);
-    let w = spread(s, cells, between(p, e), out);
-    out[s.number(e)] = leads_on(hops(p, e), w) as u8;
+    out[..shelf.sizes.nodes()].fill(0);
+    let w = spread(shelf, between(p, e), out);
+    out[shelf.sizes.number(e)] = leads_on(hops(p, e), w) as u8;
 }
 
 // The sum of the first n bytes, each 0 or 1: 16 bits hold it.

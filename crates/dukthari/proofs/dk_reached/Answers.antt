@@ -3,4 +3,4 @@ use Rattle.dukthari.proofs.Small.{reached_fits}
 use Rattle.dukthari.proofs.dk_reached.Goals as goal
 
 pub counted_fields-requires : goal.counted_fields-requires
-counted_fields-requires c = let a = c in rw (a.reached-a.ensures.value, a.sizes_of.ensures) (reached_fits _ _ _ _ _)
+counted_fields-requires c = rw (c.reached-a.ensures.value, c.sizes_of.ensures) (reached_fits _ _ _ _ _)

@@ -3,4 +3,4 @@ use Rattle.dukthari.proofs.Small.{route_fits}
 use Rattle.dukthari.proofs.dk_route.Goals as goal
 
 pub counted_fields-requires : goal.counted_fields-requires
-counted_fields-requires c = let a = c in rw (a.route-a.ensures.value, a.sizes_of.ensures) (route_fits _ _ _ _ _)
+counted_fields-requires c = rw (c.route-a.ensures.value, c.sizes_of.ensures) (route_fits _ _ _ _ _)

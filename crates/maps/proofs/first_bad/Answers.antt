@@ -17,8 +17,7 @@ use Rattle.maps.proofs.first_bad.Goals.{In-loop-x}
 in_map : (c : In-loop-x) →
     c.loop-x.k < length c.args.cells.now
 in_map c =
-    let s = c in
-    rw (s.requires, c.loop-x.invariant.1)
+    rw (c.requires, c.loop-x.invariant.1)
     (digit_lt c.loop-x-test.true (digit_lt c.loop-y-test.true c.scan-test.true))
 
 pub scan-init : goal.scan-init
@@ -69,10 +68,9 @@ scan-preserved c =
 pub returns-after-scan : goal.returns-after-scan
 returns-after-scan c =
     let l = c.scan in
-    let st = c in
-    let a = st.args in
+    let a = c.args in
     let e : l.z ≡ a.s.d = omega arith in
-    let n : l.k ≡ length a.cells.now = l.invariant.1 ∙ ap (λ (j : ℕ). a.s.w * (a.s.h * j)) e ∙ sym st.requires in
+    let n : l.k ≡ length a.cells.now = l.invariant.1 ∙ ap (λ (j : ℕ). a.s.w * (a.s.h * j)) e ∙ sym c.requires in
     sym (first_is (bad_cell a.s) a.cells.now l.k (omega arith) l.invariant.2 (λ h. absurd (omega arith)))
 
 pub returns-then-bad_cell : goal.returns-then-bad_cell

@@ -55,23 +55,20 @@ nodes-n-requires c = (passed (goal.at.nodes-n-requires c).In_ok-marks).map.sized
 
 pub slice_bounds-lay-end : goal.slice_bounds-lay-end
 slice_bounds-lay-end c =
-    let m = c in
-    let a = m.args in
+    let a = c.args in
     c.nodes-n.ensures.0 ∙ sym (ap length (laid (goal.at.slice_bounds-lay-end c).After-nodes-n) ∙ marks_length (map_of a.s a.cells.now) a.orientation)
 
 pub lay-requires : goal.lay-requires
-lay-requires c =
-    let s = c in (
-      (passed (goal.at.lay-requires c).In_ok-marks).map.sized,
-      ap length (laid (goal.at.lay-requires c).After-nodes-n) ∙ marks_length (map_of s.args.s s.args.cells.now) s.args.orientation,
-      s.requires,
-    )
+lay-requires c = (
+  (passed (goal.at.lay-requires c).In_ok-marks).map.sized,
+  ap length (laid (goal.at.lay-requires c).After-nodes-n) ∙ marks_length (map_of c.args.s c.args.cells.now) c.args.orientation,
+  c.requires,
+)
 
 pub returns : goal.returns
 returns c =
-    let d = c in
-    let a = d.args in
-    let told = d.in_ok-marks.was in (
+    let a = c.args in
+    let told = c.in_ok-marks.was in (
       sym told ∙ answered (goal.at.returns c).After-marks,
       (λ j. ap (λ (g : List ℕ). get_or g j 0) (c.lay.ensures ∙ ap (grid_of a.s) (laid (goal.at.returns c).After-nodes-n))
           ∙ of_grid a.s (marks_of (map_of a.s a.cells.now) a.orientation) (passed (goal.at.returns c).In_ok-marks).map.sized j),

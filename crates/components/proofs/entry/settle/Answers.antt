@@ -18,22 +18,17 @@ nodes-requires c = c.requires c.in_ok-checked.was
 
 pub returns-then-table-nodes : goal.returns-then-table-nodes
 returns-then-table-nodes c =
-    let n = c in
-    let a = n.args in
+    let a = c.args in
     answered_refused a.s a.checked a.grid.now.cells a.count a.room a.table.now NoRoom
-    (rw (n.in_ok-checked.was, lt-leb (nodes a.s) (length a.table.now) (omega (arith, c.if-table-nodes.true, n.nodes.ensures.0))))
+    (rw (c.in_ok-checked.was, lt-leb (nodes a.s) (length a.table.now) (omega (arith, c.if-table-nodes.true, c.nodes.ensures.0))))
 
 pub copy_out-requires : goal.copy_out-requires
 copy_out-requires c =
-    let t = c in
-    let s = c in
-    (s.requires t.in_ok-checked.was, fits (goal.at.copy_out-requires c).Else-table-nodes)
+    (c.requires c.in_ok-checked.was, fits (goal.at.copy_out-requires c).Else-table-nodes)
 
 pub returns : goal.returns
 returns c =
-    let w = c in
-    let t = c in
-    let a = t.args in
-    answered_granted a.s a.checked a.grid.now.cells a.count a.room a.table.now w.copy_out.new.table
-    (rw (t.in_ok-checked.was, le-leb (nodes a.s) (length a.table.now) (fits (goal.at.returns c).Else-table-nodes), le-leb a.count a.room (omega arith)))
-    w.copy_out.ensures
+    let a = c.args in
+    answered_granted a.s a.checked a.grid.now.cells a.count a.room a.table.now c.copy_out.new.table
+    (rw (c.in_ok-checked.was, le-leb (nodes a.s) (length a.table.now) (fits (goal.at.returns c).Else-table-nodes), le-leb a.count a.room (omega arith)))
+    c.copy_out.ensures

@@ -3,4 +3,4 @@ use Rattle.dukthari.proofs.Small.{read_fits}
 use Rattle.dukthari.proofs.files.dk_read_map.Goals as goal
 
 pub map_fields-requires : goal.map_fields-requires
-map_fields-requires c = let a = c in rw a.read_map-a.ensures.0 (read_fits _ _)
+map_fields-requires c = rw c.read_map-a.ensures.0 (read_fits _ _)

@@ -3,4 +3,4 @@ use Rattle.dukthari.proofs.Small.{write_fits}
 use Rattle.dukthari.proofs.files.dk_write_map.Goals as goal
 
 pub counted_fields-requires : goal.counted_fields-requires
-counted_fields-requires c = let a = c in rw (a.write_map-a.ensures.0, a.sizes_of.ensures) (write_fits _ _ _)
+counted_fields-requires c = rw (c.write_map-a.ensures.0, c.sizes_of.ensures) (write_fits _ _ _)

@@ -7,6 +7,7 @@ use native.Mathlib.Omega.{arith}
 use lib.ListN.{length, replicate}
 use Rattle.std.proofs.lemmas.List.{length-replicate}
 use Rattle.mesh.specs.Cells.{map_of}
+use Rattle.mesh.proofs.Answers.{map_granted}
 use Rattle.format.specs.Entry.{read_answer}
 use Rattle.format.proofs.Read.{HasRead, has_read}
 use Rattle.text.proofs.Adding.{written}
@@ -25,11 +26,13 @@ has c =
 pub nodes-n-requires : goal.nodes-n-requires
 nodes-n-requires c = (has (goal.at.nodes-n-requires c).In-Ok).sized
 
+pub invariant_of-shelf : goal.invariant_of-shelf
+invariant_of-shelf c =
+    let k = map_granted _ _ ((has (goal.at.invariant_of-shelf c).In-Ok).ordered c.nodes-n.ensures.0) in
+    record { sized = k.sized; whole = k.whole; good = k.good }
+
 pub map_text-requires : goal.map_text-requires
-map_text-requires c = (
-  search rules,
-  ((has (goal.at.map_text-requires c).In-Ok).ordered c.nodes-n.ensures.0, omega (arith, ap length c.blank-page.ensures)),
-)
+map_text-requires c = (search rules, omega (arith, ap length c.blank-page.ensures))
 
 pub returns-in-Ok : goal.returns-in-Ok
 returns-in-Ok c =

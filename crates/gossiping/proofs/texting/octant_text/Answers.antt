@@ -4,7 +4,7 @@ use Prim.Native.Nat.{ℕ, ◌+◌, ◌*◌}
 use Rattle.std.proofs.Common.{rules}
 use native.Mathlib.Omega.{arith}
 use lib.ListN.{replicate, take}
-use Rattle.mesh.proofs.Answers.{map_granted}
+use Rattle.maps.proofs.Shelves.{in_order}
 use Rattle.text.proofs.Adding.{added_then, added_as}
 use Rattle.rounds.specs.Links.{most_links}
 use Rattle.gossiping.specs.Text.{start_line, settled_line, octant_text}
@@ -20,18 +20,18 @@ way_is g k =
     ap (take n) k.blank_way-way.ensures ∙ take_replicate 0 n most_links k.links-n.ensures.2
 
 pub links-n-requires : goal.links-n-requires
-links-n-requires g c = (map_granted c.args.s c.args.cells.now c.requires.0).sized
+links-n-requires g c = c.args.shelf.now.sized
 
 pub talk-r-requires : goal.talk-r-requires
 talk-r-requires g c =
-    let a = c.args in (
+    let a = c.args in
+    let s = a.shelf.now in (
       search rules,
       (
         c.requires.0,
-        c.requires.1,
-        c.fresh.ensures.state_after ∙ made_fresh a.s a.cells.now a.o a.state.now c.requires.0 c.requires.1 c.requires.2,
+        c.fresh.ensures.state_after ∙ made_fresh s.sizes s.cells.now a.o a.state.now (in_order s) c.requires.0 c.requires.1,
         way_is g (goal.at.talk-r-requires g c).After-links-n ∙ ap (λ (n : ℕ). replicate n 0) c.links-n.ensures.0,
-        omega (arith, c.requires.3),
+        omega (arith, c.requires.2),
       ),
     )
 

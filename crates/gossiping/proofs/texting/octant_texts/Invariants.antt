@@ -2,7 +2,7 @@
 use mathlib.Core.Path.{◌≡◌}
 use Prim.Native.Nat.{◌*◌}
 use lib.ListN.{length}
-use Rattle.mesh.specs.Cells.{map_of}
+use Rattle.maps.specs.Shelf.{map_on}
 use Rattle.text.specs.Text.{Added}
 use Rattle.gossiping.specs.Text.{octant_texts}
 use Rattle.gossiping.specs.Room.{octant_room}
@@ -10,4 +10,4 @@ use Rattle.gossiping.proofs.texting.octant_texts.Given as goal
 
 abbrev pub invariant-loop-o : goal.invariant-loop-o
 invariant-loop-o g l = (length l.state ≡ length l.initial.state)
-    × Added l.initial.page (octant_texts (map_of l.s l.cells) l.o) (octant_room * l.o) l.page
+    × Added l.initial.page (octant_texts (map_on l.shelf) l.o) (octant_room * l.o) l.page

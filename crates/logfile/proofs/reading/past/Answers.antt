@@ -8,7 +8,6 @@ use Rattle.logfile.proofs.reading.past.Goals as goal
 
 pub returns : goal.returns
 returns c =
-    let n = c in
-    let text = n.args.text.now in
-    take_all (length text - n.before-n.result) (drop n.before-n.result text) (omega (arith, length-drop n.before-n.result text))
-    ∙ ap (λ (k : ℕ). drop k text) n.before-n.ensures.0
+    let text = c.args.text.now in
+    take_all (length text - c.before-n.result) (drop c.before-n.result text) (omega (arith, length-drop c.before-n.result text))
+    ∙ ap (λ (k : ℕ). drop k text) c.before-n.ensures.0

@@ -7,8 +7,7 @@ use Rattle.logfile.proofs.reading.up_to.Goals as goal
 
 pub slice_bounds-result-end : goal.slice_bounds-result-end
 slice_bounds-result-end c =
-    let n = c in
-    sym (length-take-le n.before-n.result n.args.text.now n.before-n.ensures.1)
+    sym (length-take-le c.before-n.result c.args.text.now c.before-n.ensures.1)
 
 pub returns : goal.returns
 returns c = ap (λ (k : ℕ). take k c.args.text.now) c.before.before-n.ensures.0

@@ -4,7 +4,7 @@ use mathlib.Core.List.{List}
 use Prim.Native.Nat.{ℕ, ◌+◌, ◌-◌, ◌<◌, ◌≤◌}
 use native.Mathlib.Omega.{arith}
 use lib.ListN.{length}
-use Rattle.mesh.specs.Cells.{map_of}
+use Rattle.maps.specs.Shelf.{map_on}
 use Rattle.mesh.specs.Mesh.{place, nodes, number, Inside}
 use Rattle.mesh.proofs.Numbers.{number_lt}
 use Rattle.rows.specs.Box.{largest, reach, far, Within, Held, spot}
@@ -17,108 +17,88 @@ use Rattle.marks.proofs.sweep.sweep.Goals as goal
 use Rattle.marks.proofs.sweep.sweep.Goals.{After-whole-g, then-stuck-ne0, else-stuck-ne0}
 
 -- the box of all nodes
-held : (c : After-whole-g) → Held c.args.s c.whole-g.result
+held : (c : After-whole-g) → Held c.args.shelf.now.sizes c.whole-g.result
 held c =
-    let s = c in
-    rw c.whole-g.ensures (whole_held s.args.s s.args.o s.requires.0.sized)
+    let a = c.args in
+    rw c.whole-g.ensures (whole_held a.shelf.now.sizes a.o a.shelf.now.sized)
 
 small : (c : After-whole-g) → Inside largest (far c.whole-g.result)
-small c = let s = c in far_in s.args.s c.whole-g.result s.requires.0.sized (held c)
+small c = far_in _ c.whole-g.result c.args.shelf.now.sized (held c)
 
-deep : (c : After-whole-g) → c.whole-g.result.z.steps + 1 ≡ c.args.s.d
+deep : (c : After-whole-g) → c.whole-g.result.z.steps + 1 ≡ c.args.shelf.now.sizes.d
 deep c =
-    let s = c in
-    let e : c.whole-g.result.z.steps ≡ s.args.s.d - 1 = ap (λ g. g.z.steps) c.whole-g.ensures in
-    omega (arith, s.requires.0.sized.d_lo)
+    let s = c.args.shelf.now in
+    let e : c.whole-g.result.z.steps ≡ s.sizes.d - 1 = ap (λ g. g.z.steps) c.whole-g.ensures in
+    omega (arith, s.sized.d_lo)
 
 -- a node of the box has a byte
 within : (c : After-whole-g) (t : Place) → Within c.whole-g.result t
-    → let S = c.args.s in number S (reach c.whole-g.result t) < nodes S
+    → let S = c.args.shelf.now.sizes in number S (reach c.whole-g.result t) < nodes S
 within c t w =
-    let S = c.args.s in
+    let S = c.args.shelf.now.sizes in
     number_lt S (reach c.whole-g.result t) (reach_in S c.whole-g.result t (held c) w)
-
-pub any_blocked-requires : goal.any_blocked-requires
-any_blocked-requires c = let r = c.requires.0 in (r.sized, r.whole)
 
 pub returns-then-not-any_blocked : goal.returns-then-not-any_blocked
 returns-then-not-any_blocked c =
     let a = c.args in
-    swept_none (map_of a.s a.cells.now) a.o a.v a.out.now (c.any_blocked.ensures (c.if-not-any_blocked.true))
+    swept_none (map_on a.shelf.now) a.o a.v a.out.now (c.any_blocked.ensures (c.if-not-any_blocked.true))
 
 pub loop-c-init : goal.loop-c-init
 loop-c-init c =
-    let w = c in
-    let a = w.args in
-    let m = map_of a.s a.cells.now in
+    let a = c.args in
+    let m = map_on a.shelf.now in
     record {
       long = ap length c.beyond-rows.ensures;
-      holds = subst (Holds w.whole-g.result (prior m (shut_left m a.o) 0)) (sym c.beyond-rows.ensures) (beyond_holds m w.whole-g.result (shut_left m a.o) (small (goal.at.loop-c-init c).After-whole-g));
+      holds = subst (Holds c.whole-g.result (prior m (shut_left m a.o) 0)) (sym c.beyond-rows.ensures) (beyond_holds m c.whole-g.result (shut_left m a.o) (small (goal.at.loop-c-init c).After-whole-g));
       layers = layers_none _ _ _ _ _;
     }
 
 pub over-stuck-requires : goal.over-stuck-requires
 over-stuck-requires c =
-    let at = c in
-    let w = c in
-    let r = w.requires.0 in
-    (record { sized = r.sized; whole = r.whole; held = held (goal.at.over-stuck-requires c).After-whole-g }, r.good, at.loop-c.invariant.long, omega (arith, deep (goal.at.over-stuck-requires c).After-whole-g))
+    (held (goal.at.over-stuck-requires c).After-whole-g, c.loop-c.invariant.long, omega (arith, deep (goal.at.over-stuck-requires c).After-whole-g))
 
 pub add_layer-requires : goal.add_layer-requires
 add_layer-requires c =
-    let over = c in
-    let turn = c in
-    let at = c in
-    let w = c in
-    let s = c in
-    let a = s.args in
-    let r = s.requires.0 in
-    let g = w.whole-g.result in
-    let L = at.loop-c.invariant.layers in
-    let k : at.loop-c.c ≤ g.z.steps = omega (arith, deep (goal.at.add_layer-requires c).After-whole-g, turn.loop-c-test.true) in (
-      record { sized = r.sized; held = held (goal.at.add_layer-requires c).After-whole-g; fits = λ t i. omega (arith, within (goal.at.add_layer-requires c).After-whole-g t i, r.fits, L.size) },
-      omega (arith, small (goal.at.add_layer-requires c).After-whole-g, over.over-stuck.ensures.0.size, at.loop-c.invariant.long),
+    let a = c.args in
+    let g = c.whole-g.result in
+    let L = c.loop-c.invariant.layers in
+    let k : c.loop-c.c ≤ g.z.steps = omega (arith, deep (goal.at.add_layer-requires c).After-whole-g, c.loop-c-test.true) in (
+      record { sized = a.shelf.now.sized; held = held (goal.at.add_layer-requires c).After-whole-g; fits = λ t i. omega (arith, within (goal.at.add_layer-requires c).After-whole-g t i, c.requires.0, L.size) },
+      omega (arith, small (goal.at.add_layer-requires c).After-whole-g, c.over-stuck.ensures.0.size, c.loop-c.invariant.long),
       k,
       λ i j li lj.
-          let n = within (goal.at.add_layer-requires c).After-whole-g (place i j at.loop-c.c) (record { x_le = li; y_le = lj; z_le = k }) in
-          omega (arith, fresh (map_of a.s a.cells.now) g (held (goal.at.add_layer-requires c).After-whole-g) _ _ _ _ at.loop-c.c k L i j li lj, s.requires.1 (spot a.s g i j at.loop-c.c) n),
+          let n = within (goal.at.add_layer-requires c).After-whole-g (place i j c.loop-c.c) (record { x_le = li; y_le = lj; z_le = k }) in
+          omega (arith, fresh (map_on a.shelf.now) g (held (goal.at.add_layer-requires c).After-whole-g) _ _ _ _ c.loop-c.c k L i j li lj, c.requires.1 (spot a.shelf.now.sizes g i j c.loop-c.c) n),
     )
 
 pub loop-c-preserved : goal.loop-c-preserved
 loop-c-preserved c =
-    let v = c in
-    let at = c in
-    let w = c in
-    let s = c in
-    let a = s.args in
-    let m = map_of a.s a.cells.now in
-    let g = w.whole-g.result in
-    let Q : Shuts m g (shut_left m a.o) = subst (λ g. Shuts m g (shut_left m a.o)) (sym w.whole-g.ensures) (shuts_whole m a.o s.requires.0.sized) in
-    let rows = v.over-stuck.new.rows in
-    let H = over_holds m g at.loop-c.c at.loop-c.rows rows v.over-stuck.ensures.0 (shut_left m a.o) Q at.loop-c.invariant.holds in
-    let hc : at.loop-c.c ≤ g.z.steps = omega (arith, deep (goal.at.loop-c-preserved c).After-whole-g) in
-    let L = at.loop-c.invariant.layers in
-    let more : List ℕ → Type 0 = λ new. Layers m g (shut_left m a.o) a.v a.out.now new (at.loop-c.c + 1) in
+    let a = c.args in
+    let m = map_on a.shelf.now in
+    let g = c.whole-g.result in
+    let Q : Shuts m g (shut_left m a.o) = subst (λ g. Shuts m g (shut_left m a.o)) (sym c.whole-g.ensures) (shuts_whole m a.o a.shelf.now.sized) in
+    let rows = c.over-stuck.new.rows in
+    let H = over_holds m g c.loop-c.c c.loop-c.rows rows c.over-stuck.ensures.0 (shut_left m a.o) Q c.loop-c.invariant.holds in
+    let hc : c.loop-c.c ≤ g.z.steps = omega (arith, deep (goal.at.loop-c-preserved c).After-whole-g) in
+    let L = c.loop-c.invariant.layers in
+    let more : List ℕ → Type 0 = λ new. Layers m g (shut_left m a.o) a.v a.out.now new (c.loop-c.c + 1) in
     record {
-      long = v.over-stuck.ensures.0.size ∙ at.loop-c.invariant.long;
+      long = c.over-stuck.ensures.0.size ∙ c.loop-c.invariant.long;
       holds = H;
       layers = elim c.if-stuck-ne0.branch [
-        | then-stuck-ne0 b ↦ subst more (sym b.out-is) (layers_more m g (held (goal.at.loop-c-preserved c).After-whole-g) _ _ _ _ at.loop-c.c hc L rows _ H b.add_layer.ensures)
-        | else-stuck-ne0 b ↦ subst more (sym b.out-is) (layers_skip m g (held (goal.at.loop-c-preserved c).After-whole-g) _ _ _ _ at.loop-c.c hc L rows H (v.over-stuck.ensures.1 b.if-stuck-ne0.false))
+        | then-stuck-ne0 b ↦ subst more (sym b.out-is) (layers_more m g (held (goal.at.loop-c-preserved c).After-whole-g) _ _ _ _ c.loop-c.c hc L rows _ H b.add_layer.ensures)
+        | else-stuck-ne0 b ↦ subst more (sym b.out-is) (layers_skip m g (held (goal.at.loop-c-preserved c).After-whole-g) _ _ _ _ c.loop-c.c hc L rows H (c.over-stuck.ensures.1 b.if-stuck-ne0.false))
       ];
     }
 
 pub returns : goal.returns
 returns c =
-    let at = c in
-    let w = c in
-    let s = c in
-    let a = s.args in
-    let m = map_of a.s a.cells.now in
-    let e : at.loop-c.c ≡ a.s.d = omega arith in
-    swept_all m a.o a.v a.out.now at.loop-c.out s.requires.0.sized
-    (subst (λ g. Layers m g (shut_left m a.o) a.v a.out.now at.loop-c.out a.s.d) w.whole-g.ensures
-    (subst (λ (n : ℕ). Layers m w.whole-g.result (shut_left m a.o) a.v a.out.now at.loop-c.out n) e at.loop-c.invariant.layers))
+    let a = c.args in
+    let m = map_on a.shelf.now in
+    let e : c.loop-c.c ≡ a.shelf.now.sizes.d = omega arith in
+    swept_all m a.o a.v a.out.now c.loop-c.out a.shelf.now.sized
+    (subst (λ g. Layers m g (shut_left m a.o) a.v a.out.now c.loop-c.out a.shelf.now.sizes.d) c.whole-g.ensures
+    (subst (λ (n : ℕ). Layers m c.whole-g.result (shut_left m a.o) a.v a.out.now c.loop-c.out n) e c.loop-c.invariant.layers))
 
 pub slice_bounds-over-end : goal.slice_bounds-over-end
 slice_bounds-over-end c = sym c.loop-c.invariant.long

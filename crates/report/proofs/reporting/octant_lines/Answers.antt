@@ -3,7 +3,8 @@ use mathlib.Core.Path.{◌≡◌, ap}
 use mathlib.Core.List.{◌++◌}
 use Prim.Native.Nat.{ℕ, ◌+◌}
 use native.Mathlib.Numerals.{add-one}
-use Rattle.mesh.specs.Cells.{Map, map_of}
+use Rattle.mesh.specs.Cells.{Map}
+use Rattle.maps.specs.Shelf.{map_on}
 use Rattle.text.proofs.Adding.{added_none, added_as, added_turn}
 use Rattle.report.specs.Report.{octant_line, octant_lines, figures_of}
 use Rattle.report.specs.Room.{line_room}
@@ -20,5 +21,5 @@ loop-o-init g c = added_none c.args.page.now
 pub loop-o-preserved : goal.loop-o-preserved
 loop-o-preserved g c =
     let o = c.loop-o.o in
-    added_turn line_room o (one_more (map_of c.args.s c.args.cells.now) o) c.loop-o.invariant
+    added_turn line_room o (one_more (map_on c.args.shelf.now) o) c.loop-o.invariant
     (added_as (ap (octant_line o) c.figures.ensures) c.octant_line.ensures)

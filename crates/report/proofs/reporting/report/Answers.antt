@@ -7,6 +7,7 @@ use lib.ListN.{length, replicate}
 use Rattle.std.proofs.lemmas.List.{length-replicate}
 use Rattle.std.proofs.Common.{rules}
 use Rattle.mesh.specs.Cells.{map_of}
+use Rattle.mesh.proofs.Answers.{map_granted}
 use Rattle.mesh.specs.Answers.{refusal_no}
 use Rattle.mesh.specs.declared.Sizes.{Sizes}
 use Rattle.mesh.specs.declared.Refusal.{Refusal}
@@ -35,11 +36,13 @@ has c =
 pub nodes-n-requires : goal.nodes-n-requires
 nodes-n-requires c = (has (goal.at.nodes-n-requires c).In-Ok).sized
 
+pub invariant_of-shelf : goal.invariant_of-shelf
+invariant_of-shelf c =
+    let k = map_granted _ _ ((has (goal.at.invariant_of-shelf c).In-Ok).ordered c.nodes-n.ensures.0) in
+    record { sized = k.sized; whole = k.whole; good = k.good }
+
 pub map_report-requires : goal.map_report-requires
-map_report-requires c = (
-  search rules,
-  ((has (goal.at.map_report-requires c).In-Ok).ordered c.nodes-n.ensures.0, omega (arith, ap length c.blank-page.ensures)),
-)
+map_report-requires c = (search rules, omega (arith, ap length c.blank-page.ensures))
 
 pub returns-in-Ok : goal.returns-in-Ok
 returns-in-Ok c =

@@ -4,9 +4,9 @@ use Prim.Native.Nat.{◌+◌}
 use native.Mathlib.Omega.{arith}
 use lib.ListN.{length, take}
 use lib.Seq.{length-take-le}
-use Rattle.mesh.specs.Cells.{map_of}
 use Rattle.mesh.specs.Fill.{Filled}
 use Rattle.mesh.proofs.Fill.{fill_none, fill_more}
+use Rattle.maps.specs.Shelf.{map_on}
 use Rattle.rows.specs.Box.{faulty_row}
 use Rattle.rows.proofs.Faulty.{front_filled}
 use Rattle.rows.proofs.layer.faulty_layer.Goals as goal
@@ -24,4 +24,4 @@ returns c =
     let n : length (take (a.g.y.steps + 1) a.rows.now) ≡ a.g.y.steps + 1 = length-take-le _ _ (omega arith) in
     let e : l.b ≡ a.g.y.steps + 1 = omega arith in
     front_filled _ _ _ _ (omega arith)
-    (subst (Filled (λ i. i) (λ i. faulty_row (map_of a.s a.cells.now) a.g i a.c) (take (a.g.y.steps + 1) a.rows.now) l.row-items) e l.invariant)
+    (subst (Filled (λ i. i) (λ i. faulty_row (map_on a.shelf.now) a.g i a.c) (take (a.g.y.steps + 1) a.rows.now) l.row-items) e l.invariant)

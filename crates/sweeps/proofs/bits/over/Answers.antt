@@ -12,9 +12,8 @@ long c = c.sweep_rows.ensures.0 ∙ c.requires.held
 
 pub seen_at-z-requires : goal.seen_at-z-requires
 seen_at-z-requires c =
-    let s = c in
-    let t = s.requires.small in
-    (omega arith, omega (arith, s.requires.held), λ h. (omega arith, omega arith))
+    let t = c.requires.small in
+    (omega arith, omega (arith, c.requires.held), λ h. (omega arith, omega arith))
 
 pub seen_at-requires : goal.seen_at-requires
 seen_at-requires c =
@@ -28,14 +27,12 @@ seen_at-requires-2 c =
 
 pub returns : goal.returns
 returns c =
-    let o = c in
-    let s = c in
-    let g = s.args.g in (
-      o.sweep_rows.ensures.0,
-      λ m h F. let L = o.sweep_rows.ensures.1 m h F in record {
+    let g = c.args.g in (
+      c.sweep_rows.ensures.0,
+      λ m h F. let L = c.sweep_rows.ensures.1 m h F in record {
         over = L;
         ways = λ seen Q H.
-            rw (c.seen_at-2.ensures, c.seen_at.ensures, o.seen_at-z.ensures)
-            (rows_ways g s.args.c seen s.args.rows.now o.sweep_rows.new.rows H (L.holds seen Q H));
+            rw (c.seen_at-2.ensures, c.seen_at.ensures, c.seen_at-z.ensures)
+            (rows_ways g c.args.c seen c.args.rows.now c.sweep_rows.new.rows H (L.holds seen Q H));
       },
     )

@@ -7,8 +7,9 @@ use lib.IntN.{ℤ}
 use lib.Signed.{mag}
 use mir.Syntax.{w32}
 use mir.Val.{to_z, of_z}
-use Rattle.mesh.specs.Cells.{Map, map_of}
+use Rattle.mesh.specs.Cells.{Map}
 use Rattle.mesh.proofs.Whole.{back}
+use Rattle.maps.specs.Shelf.{map_on}
 use Rattle.paths.specs.Differences.{wanted}
 use Rattle.rows.specs.Box.{between, far}
 use Rattle.sweeps.specs.Sweep.{WaysTo, ways_of, flag_of}
@@ -28,25 +29,22 @@ sent n up seen z d e h = e ∙ ap (λ (y : ℤ). flag_of (wanted up y) seen) (ba
 told : (c : After-ways-w) →
     let s = c in
     c.ways-w.result
-    ≡ ways_of (ahead (map_of s.args.s s.args.cells.now) s.args.p s.args.e s.requires.start_in s.requires.end_in) (far (between s.args.e s.args.p))
+    ≡ ways_of (ahead (map_on s.args.shelf.now) s.args.p s.args.e s.requires.start_in s.requires.end_in) (far (between s.args.e s.args.p))
 told c =
     let s = c in
-    let m : Map = map_of s.args.s s.args.cells.now in
+    let m : Map = map_on s.args.shelf.now in
     subst (λ (g : Between). WaysTo m g (far g) c.ways-w.result) c.between.ensures c.ways-w.ensures
     (ahead m s.args.p s.args.e s.requires.start_in s.requires.end_in)
     (from_end m s.args.p s.args.e s.requires.start_in s.requires.end_in s.requires.end_may)
 
 low : (c : After-ways-w) → let w = c.ways-w.result in (w.x ≤ 1) × (w.y ≤ 1) × (w.z ≤ 1)
 low c =
-    let s = c in
-    ways_le c.ways-w.result (ahead (map_of s.args.s s.args.cells.now) s.args.p s.args.e s.requires.start_in s.requires.end_in)
-    (far (between s.args.e s.args.p)) (told c)
+    ways_le c.ways-w.result (ahead (map_on c.args.shelf.now) c.args.p c.args.e c.requires.start_in c.requires.end_in)
+    (far (between c.args.e c.args.p)) (told c)
 
 pub ways-w-requires : goal.ways-w-requires
 ways-w-requires c =
-    let s = c in
-    rw c.between.ensures
-    (record { sized = s.requires.sized; whole = s.requires.whole; held = held s.args.s s.args.e s.args.p s.requires.end_in s.requires.start_in }, s.requires.good)
+    rw c.between.ensures (held c.args.shelf.now.sizes c.args.e c.args.p c.requires.end_in c.requires.start_in)
 
 pub flag-requires : goal.flag-requires
 flag-requires c = let d = c.difference in (omega arith, rw (back d.result (omega arith)) d.ensures.1, (low (goal.at.flag-requires c).After-ways-w).0)
@@ -63,15 +61,11 @@ flag-requires-3 c =
 
 pub returns : goal.returns
 returns c =
-    let x = c in
-    let y = c in
-    let after = c in
-    let s = c in
-    let w = after.ways-w.result in
-    let m : Map = map_of s.args.s s.args.cells.now in
+    let w = c.ways-w.result in
+    let m : Map = map_on c.args.shelf.now in
     rw (
-      sent x.flag.result 0 w.x _ _ x.flag.ensures.0 x.difference.ensures,
-      sent y.flag-2.result 2 w.y _ _ y.flag-2.ensures.0 y.difference-2.ensures,
+      sent c.flag.result 0 w.x _ _ c.flag.ensures.0 c.difference.ensures,
+      sent c.flag-2.result 2 w.y _ _ c.flag-2.ensures.0 c.difference-2.ensures,
       sent c.flag-3.result 4 w.z _ _ c.flag-3.ensures.0 c.difference-3.ensures,
       told (goal.at.returns c).After-ways-w,
-    ) (sym (offered_is m s.args.p s.args.e s.requires.start_in s.requires.end_in s.requires.end_may))
+    ) (sym (offered_is m c.args.p c.args.e c.requires.start_in c.requires.end_in c.requires.end_may))

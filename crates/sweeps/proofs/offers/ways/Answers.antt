@@ -2,31 +2,31 @@
 use mathlib.Core.Path.{refl, ◌∙◌}
 use Prim.Native.Nat.{◌+◌}
 use native.Mathlib.Omega.{arith}
-use Rattle.mesh.specs.Cells.{map_of}
 use Rattle.mesh.specs.Mesh.{Inside}
+use Rattle.maps.specs.Shelf.{map_on}
 use Rattle.rows.specs.Box.{largest, far, FaultyRows}
 use Rattle.rows.proofs.Box.{far_in}
+use Rattle.rows.proofs.Faulty.{on_shelf}
 use Rattle.sweeps.proofs.RowSweep.{rows_ready, after_none, after_more, ways_more, ways_all}
 use Rattle.sweeps.proofs.offers.ways.Goals as goal
 use Rattle.sweeps.proofs.offers.ways.Goals.{After-faulty_layer, Start}
 
 small : (c : Start) → Inside largest (far c.args.g)
-small c = let r = c.requires.0 in far_in c.args.s c.args.g r.sized r.held
+small c = far_in _ c.args.g c.args.shelf.now.sized c.requires
 
 -- what the layer's faulty nodes are
-told : (c : After-faulty_layer) → let a = c.args in FaultyRows (map_of a.s a.cells.now) a.g c.loop-c.c c.faulty_layer.new.rows
+told : (c : After-faulty_layer) → let a = c.args in FaultyRows (map_on a.shelf.now) a.g c.loop-c.c c.faulty_layer.new.rows
 told c b h = c.faulty_layer.ensures.at b (omega arith)
 
 pub faulty_layer-requires : goal.faulty_layer-requires
 faulty_layer-requires c =
-    let r = c.requires in
-    (r.0, r.1, omega arith, omega (arith, small (goal.at.faulty_layer-requires c).Start, c.loop-c.invariant.given))
+    (c.requires, omega arith, omega (arith, small (goal.at.faulty_layer-requires c).Start, c.loop-c.invariant.given))
 
 pub over-w-requires : goal.over-w-requires
 over-w-requires c =
     let a = c.args in
     let l = c.loop-c in
-    rows_ready (map_of a.s a.cells.now) a.g l.c c.faulty_layer.new.rows l.rows c.requires.0 (told (goal.at.over-w-requires c).After-faulty_layer)
+    rows_ready (map_on a.shelf.now) a.g l.c c.faulty_layer.new.rows l.rows (on_shelf a.shelf.now a.g c.requires) (told (goal.at.over-w-requires c).After-faulty_layer)
     (c.faulty_layer.ensures.size ∙ l.invariant.given) l.invariant.long
 
 pub loop-c-init : goal.loop-c-init
@@ -36,7 +36,7 @@ loop-c-init c =
     record {
       long = rw c.seeded-rows.ensures;
       given = refl;
-      after = after_none (map_of a.s a.cells.now) a.g c.seeded-rows.result (omega arith) c.seeded-rows.ensures;
+      after = after_none (map_on a.shelf.now) a.g c.seeded-rows.result (omega arith) c.seeded-rows.ensures;
       ways = λ h. absurd (omega arith);
     }
 
@@ -44,7 +44,7 @@ pub loop-c-preserved : goal.loop-c-preserved
 loop-c-preserved c =
     let a = c.args in
     let l = c.loop-c in
-    let m = map_of a.s a.cells.now in
+    let m = map_on a.shelf.now in
     let rows = c.over-w.new.rows in
     let L = c.over-w.ensures.1 m (omega arith) (told (goal.at.loop-c-preserved c).After-faulty_layer) in
     record {
@@ -58,4 +58,4 @@ pub returns : goal.returns
 returns c =
     let a = c.args in
     let l = c.loop-c in
-    ways_all (map_of a.s a.cells.now) a.g l.c l.w (omega arith) l.invariant.ways
+    ways_all (map_on a.shelf.now) a.g l.c l.w (omega arith) l.invariant.ways

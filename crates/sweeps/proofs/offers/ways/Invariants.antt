@@ -1,7 +1,7 @@
 -- `sweeps::offers::ways` meets its contract: layer after layer. Assumes nothing.
 use mathlib.Core.Path.{◌≡◌}
 use lib.ListN.{length}
-use Rattle.mesh.specs.Cells.{map_of}
+use Rattle.maps.specs.Shelf.{map_on}
 use Rattle.sweeps.specs.Sweep.{After, WaysAfter}
 use Rattle.sweeps.proofs.offers.ways.Given as goal
 
@@ -9,6 +9,6 @@ abbrev pub invariant-loop-c : goal.invariant-loop-c
 invariant-loop-c l = record {
   long : length l.rows ≡ 16;
   given : length l.faulty ≡ 16;
-  after : After (map_of l.s l.cells) l.g l.c l.rows;
-  ways : WaysAfter (map_of l.s l.cells) l.g l.c l.w;
+  after : After (map_on l.shelf) l.g l.c l.rows;
+  ways : WaysAfter (map_on l.shelf) l.g l.c l.w;
 }

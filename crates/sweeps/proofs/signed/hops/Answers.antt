@@ -18,11 +18,9 @@ sent n z d e h = e ∙ ap nat_abs (back z (omega arith) ∙ h.0)
 pub returns : goal.returns
 unfolding hops
 returns c =
-    let x = c in
-    let y = c in
-    let a = x.args in
+    let a = c.args in
     rw (
-      sent _ _ _ x.size.ensures.0 x.difference.ensures,
-      sent _ _ _ y.size-2.ensures.0 y.difference-2.ensures,
+      sent _ _ _ c.size.ensures.0 c.difference.ensures,
+      sent _ _ _ c.size-2.ensures.0 c.difference-2.ensures,
       sent _ _ _ c.size-3.ensures.0 c.difference-3.ensures,
     ) (refl, omega (arith, hops_is a.p a.e))

@@ -3,9 +3,10 @@ use mathlib.Core.Path.{◌≡◌, refl, ◌∙◌, subst}
 use Prim.Native.Nat.{ℕ, ◌+◌}
 use native.Mathlib.Omega.{arith}
 use Rattle.mesh.specs.Mesh.{Inside}
-use Rattle.mesh.specs.Cells.{map_of}
+use Rattle.maps.specs.Shelf.{map_on}
 use Rattle.rows.specs.Box.{largest, far, FaultyRows}
 use Rattle.rows.proofs.Box.{far_in}
+use Rattle.rows.proofs.Faulty.{on_shelf}
 use Rattle.sweeps.proofs.RowSweep.{rows_ready, after_none, after_more, ways_more, ways_all}
 use Rattle.trails.specs.Table.{Table}
 use Rattle.trails.proofs.Table.{table_none, table_more}
@@ -13,28 +14,27 @@ use Rattle.trails.proofs.follow.lay_all.Goals as goal
 use Rattle.trails.proofs.follow.lay_all.Goals.{After-faulty_layer, Start}
 
 small : (c : Start) → Inside largest (far c.args.g)
-small c = let r = c.requires.0 in far_in c.args.s c.args.g r.sized r.held
+small c = far_in _ c.args.g c.args.shelf.now.sized c.requires.0
 
 -- what the layer's faulty nodes are
-told : (c : After-faulty_layer) → let a = c.args in FaultyRows (map_of a.s a.cells.now) a.g c.loop-c.c c.faulty_layer.new.rows
+told : (c : After-faulty_layer) → let a = c.args in FaultyRows (map_on a.shelf.now) a.g c.loop-c.c c.faulty_layer.new.rows
 told c b h = c.faulty_layer.ensures.at b (omega arith)
 
 pub faulty_layer-requires : goal.faulty_layer-requires
 faulty_layer-requires c =
-    let r = c.requires in
-    (r.0, r.1, omega arith, omega (arith, small (goal.at.faulty_layer-requires c).Start, c.loop-c.invariant.given))
+    (c.requires.0, omega arith, omega (arith, small (goal.at.faulty_layer-requires c).Start, c.loop-c.invariant.given))
 
 pub over-w-requires : goal.over-w-requires
 over-w-requires c =
     let a = c.args in
     let l = c.loop-c in
-    rows_ready (map_of a.s a.cells.now) a.g l.c c.faulty_layer.new.rows l.rows c.requires.0 (told (goal.at.over-w-requires c).After-faulty_layer)
+    rows_ready (map_on a.shelf.now) a.g l.c c.faulty_layer.new.rows l.rows (on_shelf a.shelf.now a.g c.requires.0) (told (goal.at.over-w-requires c).After-faulty_layer)
     (c.faulty_layer.ensures.size ∙ l.invariant.given) l.invariant.long
 
 pub loop-c-init : goal.loop-c-init
 loop-c-init c =
     let a = c.args in
-    let m = map_of a.s a.cells.now in
+    let m = map_on a.shelf.now in
     let t = small (goal.at.loop-c-init c).Start in
     record {
       long = rw c.seeded-rows.ensures;
@@ -45,13 +45,13 @@ loop-c-init c =
     }
 
 pub lay-requires : goal.lay-requires
-lay-requires c = (c.over-w.ensures.0 ∙ c.loop-c.invariant.long, c.loop-c.auto.table ∙ c.requires.2, omega (arith, small (goal.at.lay-requires c).Start))
+lay-requires c = (c.over-w.ensures.0 ∙ c.loop-c.invariant.long, c.loop-c.auto.table ∙ c.requires.1, omega (arith, small (goal.at.lay-requires c).Start))
 
 pub loop-c-preserved : goal.loop-c-preserved
 loop-c-preserved c =
     let a = c.args in
     let l = c.loop-c in
-    let m = map_of a.s a.cells.now in
+    let m = map_on a.shelf.now in
     let rows = c.over-w.new.rows in
     let L = c.over-w.ensures.1 m (omega arith) (told (goal.at.loop-c-preserved c).After-faulty_layer) in
     let A = after_more m a.g l.c (l.c + 1) l.rows rows L.over l.invariant.after in
@@ -67,6 +67,6 @@ pub returns : goal.returns
 returns c =
     let a = c.args in
     let l = c.loop-c in
-    let m = map_of a.s a.cells.now in
+    let m = map_on a.shelf.now in
     let e : l.c ≡ a.g.z.steps + 1 = omega arith in
     (ways_all m a.g l.c l.w e l.invariant.ways, subst (λ (i : ℕ). Table m a.g i l.table) e l.invariant.laid)

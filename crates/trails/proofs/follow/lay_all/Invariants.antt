@@ -1,7 +1,7 @@
 -- `trails::follow::lay_all` meets its contract: layer after layer. Assumes nothing.
 use mathlib.Core.Path.{◌≡◌}
 use lib.ListN.{length}
-use Rattle.mesh.specs.Cells.{map_of}
+use Rattle.maps.specs.Shelf.{map_on}
 use Rattle.sweeps.specs.Sweep.{After, WaysAfter}
 use Rattle.trails.specs.Table.{Table}
 use Rattle.trails.proofs.follow.lay_all.Given as goal
@@ -10,7 +10,7 @@ abbrev pub invariant-loop-c : goal.invariant-loop-c
 invariant-loop-c l = record {
   long : length l.rows ≡ 16;
   given : length l.faulty ≡ 16;
-  after : After (map_of l.s l.cells) l.g l.c l.rows;
-  ways : WaysAfter (map_of l.s l.cells) l.g l.c l.w;
-  laid : Table (map_of l.s l.cells) l.g l.c l.table;
+  after : After (map_on l.shelf) l.g l.c l.rows;
+  ways : WaysAfter (map_on l.shelf) l.g l.c l.w;
+  laid : Table (map_on l.shelf) l.g l.c l.table;
 }
