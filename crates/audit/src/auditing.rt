@@ -48,14 +48,15 @@ fn print_on<W: Write, const N: usize>(
     page: &Page<N>,
 ) -> Result<()> {
     printed?;
-    to.write_all(page.text())
+    page.print(to)
 }
 
-// Prints the text for each line, until a write fails; the totals of all lines, and whether one failed.
+// Prints the text for each line, by a page that is lent, until a write fails; the totals of all lines, and whether one failed.
 pub(crate) fn audit_log<W: Write>(
     s: Sizes,
     cells: &[u8],
     log: &[u8],
+    page: &mut Page<65536>,
     to: &mut W,
 ) -> (Totals, Result<()>)
     requires { length log.now ≤ longest_log }
@@ -63,13 +64,12 @@ pub(crate) fn audit_log<W: Write>(
 {
     let mut t = Totals::none();
     let mut printed = Ok(());
-    let mut page = Page::<65536>::blank();
     let mut rest = log;
     while !rest.is_empty() {
         let (line, after) = split_line(rest);
         page.clear();
-        t = audit_line(&mut page, s, cells, t, line);
-        printed = print_on(printed, to, &page);
+        t = audit_line(page, s, cells, t, line);
+        printed = print_on(printed, to, page);
         rest = after;
     }
     (t, printed)

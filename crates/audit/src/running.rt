@@ -13,34 +13,40 @@ use transfers::say_refusal;
 // The longest log that is read.
 const LONGEST_LOG: usize = 65536;
 
-// The page for a map and a log.
-fn print_audit<W: Write>(s: Sizes, cells: &[u8], log: &[u8], to: &mut W) -> Result<()> {
+// The audit of a log on a map, part by part on a page that is lent.
+fn print_audit<W: Write>(
+    s: Sizes,
+    cells: &[u8],
+    log: &[u8],
+    page: &mut Page<65536>,
+    to: &mut W,
+) -> Result<()> {
     let long = log.len() > LONGEST_LOG;
-    let mut page = Page::<65536>::blank();
-    top(&mut page, s, long);
-    to.write_all(page.text())?;
+    page.clear();
+    top(page, s, long);
+    page.print(to)?;
     if long {
         return Ok(());
     }
-    let (t, printed) = audit_log(s, cells, log, to);
+    let (t, printed) = audit_log(s, cells, log, page, to);
     printed?;
     page.clear();
-    tell_totals(&mut page, t);
-    to.write_all(page.text())
+    tell_totals(page, t);
+    page.print(to)
 }
 
 // The page for a map file and a log.
 fn audit<W: Write>(map: &[u8], log: &[u8], to: &mut W) -> Result<()> {
     let mut cells = [0u8; 4096];
+    let mut page = Page::blank();
     match read_map(map, &mut cells) {
         Ok(s) => {
             let n = s.nodes();
-            print_audit(s, &cells[..n], log, to)
+            print_audit(s, &cells[..n], log, &mut page, to)
         }
         Err(r) => {
-            let mut page = Page::<65536>::blank();
             say_refusal(&mut page, b"the map is refused, ", r);
-            to.write_all(page.text())
+            page.print(to)
         }
     }
 }

@@ -65,10 +65,10 @@ fn map_text<const N: usize>(page: &mut Page<N>, shelf: &Shelf)
 }
 
 // The text for a file. A refusal is told as the report tells it.
-pub(crate) fn gossip(file: &[u8]) -> Page<65536>
-    ensures { result ≡ gossip file.now }
+pub(crate) fn gossip(file: &[u8], page: &mut Page<65536>)
+    ensures { (page.new ≡ gossip file.now) × (length page.new ≤ gossip_room) }
 {
-    let mut page = Page::blank();
+    page.clear();
     let mut cells = [0u8; 4096];
     match read_map(file, &mut cells) {
         Ok(s) => {
@@ -77,9 +77,8 @@ pub(crate) fn gossip(file: &[u8]) -> Page<65536>
                 sizes: s,
                 cells: &cells[..n],
             };
-            map_text(&mut page, &shelf);
+            map_text(page, &shelf);
         }
-        Err(r) => refusal_line(&mut page, u32::from(r) as usize),
+        Err(r) => refusal_line(page, u32::from(r) as usize),
     }
-    page
 }

@@ -13,7 +13,7 @@ use text::running::{arg_count, open_named};
 fn help<W: Write>(out: &mut W) -> Result<()> {
     let mut page = Page::<4096>::blank();
     usage(&mut page);
-    out.write_all(page.text())
+    page.print(out)
 }
 
 // The audit of an open log, on the map that an argument names.

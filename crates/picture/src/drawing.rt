@@ -3,7 +3,7 @@ ghost use Rattle.std.specs.Prelude.{◌≡◌, ◌+◌, ◌≤◌, ◌<◌, leng
 ghost use Rattle.mesh.specs.Cells.{map_of};
 ghost use Rattle.paths.specs.Entries.{check_ends};
 ghost use Rattle.rows.specs.Box.{OnAxis, Ready};
-ghost use Rattle.text.specs.Text.{pieces, Added};
+ghost use Rattle.text.specs.Text.{pieces, Said, Added};
 ghost use Rattle.picture.specs.Picture.{told_wide, symbol_at, column_text, row_text, row_in, layer_head, layer_text, picture};
 ghost use Rattle.picture.specs.Room.{symbols_room, row_room, rows_room, columns_room, layer_head_room, layers_room, picture_room, number_room};
 ghost use Rattle.mesh.specs.Answers.{accepted};
@@ -13,7 +13,12 @@ use crate::symbols::draw;
 use mesh::Sizes;
 use rows::{Between, Run};
 use sweeps::boxes::between;
-use text::Page;
+use text::{Page, say};
+
+// Room for the line of the ends, and for a layer.
+const ENDS_ROOM: usize = 189;
+
+const LAYER_ROOM: usize = 2555;
 
 // A coordinate, told by one form where it has one digit and by another where it has two.
 fn tell_wide<const N: usize>(page: &mut Page<N>, one: &[u8], two: &[u8], n: usize)
@@ -79,15 +84,23 @@ fn layer_head<const N: usize>(page: &mut Page<N>, z: usize, x: Run)
     page.say(b"\n");
 }
 
+// The layer after c steps.
+fn layer<const N: usize>(page: &mut Page<N>, s: Sizes, drawn: &[u8], g: Between, c: usize)
+    requires { Ready s drawn.now g × (c ≤ g.z.steps) × (length page.old + (layer_head_room + rows_room) ≤ N) }
+    ensures { Added page.old (layer_text s drawn.now g c) (layer_head_room + rows_room) page.new }
+{
+    let z = g.z;
+    layer_head(page, z.at(c), g.x);
+    rows(page, s, drawn, g, c);
+}
+
 // All layers.
 fn layers<const N: usize>(page: &mut Page<N>, s: Sizes, drawn: &[u8], g: Between)
     requires { Ready s drawn.now g × (length page.old + layers_room ≤ N) }
     ensures { Added page.old (pieces (layer_text s drawn.now g) (g.z.steps + 1)) layers_room page.new }
 {
-    let z = g.z;
-    for c in 0..z.steps + 1 {
-        layer_head(page, z.at(c), g.x);
-        rows(page, s, drawn, g, c);
+    for c in 0..g.z.steps + 1 {
+        layer(page, s, drawn, g, c);
     }
 }
 
@@ -104,4 +117,44 @@ pub fn picture<const N: usize>(page: &mut Page<N>, s: Sizes, cells: &[u8], start
     let g = between(u, v);
     say_ends(page, u, v, g);
     layers(page, s, &drawn[..n], g);
+}
+
+// All layers, stored in lent bytes: a page for one of them, since one for all costs more than a small picture.
+fn layers_into(s: Sizes, drawn: &[u8], g: Between, out: &mut [u8], at: usize) -> usize
+    requires { Ready s drawn.now g × (at + layers_room ≤ length out.old) }
+    ensures { Said out.old at (pieces (layer_text s drawn.now g) (g.z.steps + 1)) out.new result
+        × (result ≤ at + layers_room) }
+{
+    let mut page = Page::<LAYER_ROOM>::blank();
+    let mut next = at;
+    for c in 0..g.z.steps + 1 {
+        page.clear();
+        layer(&mut page, s, drawn, g, c);
+        next = say(page.text(), out, next);
+    }
+    next
+}
+
+// The whole picture, stored in lent bytes.
+pub fn picture_into(
+    s: Sizes,
+    cells: &[u8],
+    start: usize,
+    end: usize,
+    out: &mut [u8],
+    at: usize,
+) -> usize
+    requires { (check_ends s cells.now start end ≡ accepted) × (at + picture_room ≤ length out.old) }
+    ensures { Said out.old at (picture (map_of s cells.now) start end) out.new result × (result ≤ at + picture_room) }
+{
+    let mut drawn = [0u8; 4096];
+    draw(s, cells, start, end, &mut drawn);
+    let n = s.nodes();
+    let u = s.place(start);
+    let v = s.place(end);
+    let g = between(u, v);
+    let mut page = Page::<ENDS_ROOM>::blank();
+    say_ends(&mut page, u, v, g);
+    let head = say(page.text(), out, at);
+    layers_into(s, &drawn[..n], g, out, head)
 }

@@ -41,10 +41,10 @@ fn map_report<const N: usize>(page: &mut Page<N>, shelf: &Shelf)
 }
 
 // The report on a file.
-pub(crate) fn report(file: &[u8]) -> Page<65536>
-    ensures { result ≡ report file.now }
+pub(crate) fn report(file: &[u8], page: &mut Page<65536>)
+    ensures { (page.new ≡ report file.now) × (length page.new ≤ report_room) }
 {
-    let mut page = Page::blank();
+    page.clear();
     let mut cells = [0u8; 4096];
     match read_map(file, &mut cells) {
         Ok(s) => {
@@ -53,9 +53,8 @@ pub(crate) fn report(file: &[u8]) -> Page<65536>
                 sizes: s,
                 cells: &cells[..n],
             };
-            map_report(&mut page, &shelf);
+            map_report(page, &shelf);
         }
-        Err(r) => refusal_line(&mut page, u32::from(r) as usize),
+        Err(r) => refusal_line(page, u32::from(r) as usize),
     }
-    page
 }

@@ -21,7 +21,7 @@ fn say_node<W: Write>(s: Sizes, k: usize, mark: u8, component: u16, out: &mut W)
             b"place % % % mark % component %\n",
             &[p.x, p.y, p.z, mark as usize, component as usize],
         );
-        out.write_all(line.text())?;
+        line.print(out)?;
     }
     Ok(())
 }
@@ -52,7 +52,7 @@ fn say_component<W: Write>(i: usize, c: Component, out: &mut W) -> Result<()> {
             c.z1 as usize,
         ],
     );
-    out.write_all(line.text())
+    line.print(out)
 }
 
 // All components.

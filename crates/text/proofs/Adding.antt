@@ -5,24 +5,11 @@ use Prim.Native.Nat.{ℕ, zero, suc, ◌+◌, ◌*◌, ◌≤◌, ◌<◌}
 use native.Mathlib.Nat.{mul-suc}
 use native.Mathlib.Numerals.{add-one}
 use native.Mathlib.Omega.{arith}
-use lib.ListN.{length, length-append, take, drop}
-use lib.Seq.{length-take-le, take_at}
-use Rattle.octets.specs.Stored.{stored}
+use lib.ListN.{length}
 use Rattle.text.specs.Text.{pieces, Added}
 
 pub added_none : (old : List ℕ) → Added old [] 0 old
 added_none old = record { text_is = sym (append-nil old); in_room = omega arith }
-
-pub added_word : {old word new : List ℕ} → new ≡ old ++ word → Added old word (length word) new
-added_word {old} {word} e = record { text_is = e; in_room = omega (arith, ap length e, length-append old word) }
-
--- the front of a page's bytes, with a word stored behind it
-pub added_front : (bytes : List ℕ) (used : ℕ) (word : List ℕ) → used ≤ length bytes
-    → Added (take used bytes) word (length word) (take (used + length word) (stored bytes used word))
-added_front bytes used word h =
-    let size : length (take used bytes ++ word) ≡ used + length word =
-    length-append (take used bytes) word ∙ ap (λ (n : ℕ). n + length word) (length-take-le used bytes h) in
-    added_word (take_at (take used bytes ++ word) (drop (used + length word) bytes) (used + length word) size)
 
 pub added_then : {old word : List ℕ} {w : ℕ} {new more : List ℕ} {v : ℕ} {last : List ℕ} → Added old word w new → Added new more v last
     → Added old (word ++ more) (w + v) last
@@ -42,6 +29,10 @@ added_within h s = record { text_is = s.text_is; in_room = omega (arith, s.in_ro
 -- what a blank page holds
 pub written : {old word : List ℕ} {w : ℕ} {new : List ℕ} → old ≡ [] → Added old word w new → new ≡ word
 written {word = word} e s = s.text_is ∙ ap (λ (l : List ℕ). l ++ word) e
+
+-- and how much of it, where it is a text that is known
+pub filled : {old word text : List ℕ} {w v : ℕ} {new : List ℕ} → old ≡ [] → Added old word w new → word ≡ text → w ≤ v → (new ≡ text) × (length new ≤ v)
+filled b s e h = (written b s ∙ e, omega (arith, s.in_room, ap length b))
 
 -- one more of n texts of at most w bytes
 pub added_turn : (w n : ℕ) {old so_far more all new last : List ℕ} → all ≡ so_far ++ more → Added old so_far (w * n) new → Added new more w last

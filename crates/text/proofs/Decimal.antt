@@ -22,6 +22,9 @@ length_within (suc more) n = go (ltb n 10) (decimal_within more (n / 10)) (lengt
     go true l h = omega arith
     go false l h = omega (arith, length-append l ((48 + n % 10) ∷ []))
 
+pub length_decimal : (n : ℕ) → length (decimal n) ≤ 20
+length_decimal n = length_within 20 n
+
 -- a digit below ten is the first, and one that is not has others before it
 first : (k n : ℕ) → n < 10 → decimal_within (suc k) n ≡ (48 + n) ∷ []
 unfolding decimal_within

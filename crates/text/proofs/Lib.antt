@@ -1,3 +1,4 @@
 pub mod Decimal
 pub mod Adding
+pub mod Saying
 pub mod Telling

@@ -2,6 +2,7 @@
 use Rattle.std.specs.Prelude.{true, false, cond, List, [], ◌∷◌, ◌++◌, ◌≡◌, ℕ, zero, suc, ◌+◌, ◌/◌, ◌%◌, ◌≤◌, eqb, ltb, length}
 use Prim.Native.Char.{code}
 use Prim.Native.String.{String, [] as none, ◌∷◌ as ◌then◌}
+use Rattle.octets.specs.Stored.{stored}
 
 -- the bytes of a word
 abbrev pub ascii : String → List ℕ
@@ -30,6 +31,11 @@ name_line word path = word ++ path ++ ascii "\n"
 unfoldable pub pieces : (ℕ → List ℕ) → ℕ → List ℕ
 pieces f zero = []
 pieces f (suc n) = pieces f n ++ f n
+
+-- `text` has been stored from `at` on, and `next` is the place after it
+pub record Said (old : List ℕ) (at : ℕ) (text new : List ℕ) (next : ℕ) : Type 0 where
+  pub place : next ≡ at + length text
+  pub bytes : new ≡ stored old at text
 
 -- a page that held `old` holds `text` after it, which takes no more than so much room
 pub record Added (old text : List ℕ) (room : ℕ) (new : List ℕ) : Type 0 where

@@ -1,6 +1,6 @@
 // What the programs share, and little is proved of but that it is safe: room for a file, a file opened and named, bytes read, text printed.
 ghost use Rattle.std.specs.Prelude.{◌≡◌, ℕ, ◌≤◌, List, length, replicate, IfOk, OnOk};
-ghost use Rattle.std.specs.Fn.{FnOnceReturnsAt};
+ghost use Rattle.text.specs.Calls.{Leaves};
 ghost use Rattle.std.specs.Io.KnownBytes.{Appends};
 
 use crate::Page;
@@ -38,7 +38,9 @@ fn open<R: Files>(rt: &R, path: &[u8]) -> Result<R::File> {
 }
 
 // The words for an error: zeros follow them, or the system's number for it in parentheses.
-fn words(told: &[u8]) -> &[u8] {
+fn words(told: &[u8]) -> &[u8]
+    ensures { length result.now ≤ length told.now }
+{
     match told.iter().position(|&b| b == 0 || b == b'(') {
         Some(end) if told[end] == b'(' => &told[..end.saturating_sub(1)],
         Some(end) => &told[..end],
@@ -74,7 +76,7 @@ pub fn open_named<R: Env + Files, W: Write, E: Write>(
         Ok(file) => {
             let mut line = Page::<65536>::blank();
             line.name(word, path);
-            out.write_all(line.text())?;
+            line.print(out)?;
             Ok(Some(file))
         }
         Err(error) => {
@@ -100,17 +102,28 @@ pub fn read_front<R: Read>(from: &mut R, file: &mut [u8]) -> Result<usize>
     Ok(done)
 }
 
-// Reads a file, and prints the page that is written on it. An error is the reader's or the writer's own.
-pub fn filter<R: Read, W: Write, F: FnOnce(&[u8]) -> Page<65536>>(
+impl<const N: usize> Page<N> {
+    // Prints what is written. An error is the writer's own, and leaves open how much of it was taken.
+    pub fn print<W: Write>(&self, out: &mut W) -> Result<()>
+        ensures { OnOk result (Appends (W.contents out.old) (W.contents out.new) self.now) }
+    {
+        out.write_all(self.text())
+    }
+}
+
+// Reads a file, and prints the page that is written on it. An error is the reader's or the writer's own. The page is lent: one that is answered is copied.
+pub fn filter<R: Read, W: Write, F: FnOnce(&[u8], &mut Page<65536>)>(
     from: &mut R,
     out: &mut W,
-    page_on: F,
+    write_page: F,
 ) -> Result<()>
-    requires { F.IsAlwaysCallable page_on }
-    ensures { OnOk result ((file page : List ℕ) × FnOnceReturnsAt F.FnOnce page_on file page
+    requires { F.IsAlwaysCallable write_page }
+    ensures { OnOk result ((file page : List ℕ) × Leaves F.FnOnce write_page file page
         × Appends (W.contents out.old) (W.contents out.new) page) }
 {
     let mut file = blank_file();
     let n = read_front(from, &mut file)?;
-    out.write_all(page_on(&file[..n]).text())
+    let mut page = Page::blank();
+    write_page(&file[..n], &mut page);
+    page.print(out)
 }

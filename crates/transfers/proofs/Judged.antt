@@ -26,8 +26,8 @@ use Rattle.paths.proofs.Offered.{route_length_lem}
 use Rattle.routes.proofs.Ends.{ends_granted}
 use Rattle.text.specs.Text.{ascii, told}
 use Rattle.text.proofs.Adding.{pieces_same}
-use Rattle.transfers.specs.Transfer.{no_path, granted_text}
-use Rattle.std.specs.Prelude.{Ok, Err}
+use Rattle.transfers.specs.Transfer.{no_path, granted_text, verdict_text, transfer_text}
+use Rattle.std.specs.Prelude.{Ok, Err, Result}
 
 -- ---- no check but the last refuses for want of a path
 
@@ -134,3 +134,8 @@ granted_same h l k same =
     ap (λ (t : List ℕ). told (ascii ": granted, hops %, route") (h ∷ []) ++ t ++ ascii "\n")
     (pieces_same (λ i. told (ascii " %") (get_or l i 0 ∷ [])) (λ i. told (ascii " %") (get_or k i 0 ∷ [])) (h + 1)
     (λ i b. ap (λ (n : ℕ). told (ascii " %") (n ∷ [])) (same i b)))
+
+-- the text by the verdict that was given
+pub judged_text : (S : Sizes) (cells : List ℕ) (k s e : ℕ) (v : Result Grant Refusal) → verdict_answer S cells s e ≡ v
+    → told (ascii "line %: % to %") (k ∷ s ∷ e ∷ []) ++ verdict_text S cells s e v ≡ transfer_text S cells k s e
+judged_text S cells k s e v is = ap (λ (x : Result Grant Refusal). told (ascii "line %: % to %") (k ∷ s ∷ e ∷ []) ++ verdict_text S cells s e x) (sym is)

@@ -7,7 +7,7 @@ ghost use Rattle.mesh.specs.Cells.{map_of};
 ghost use Rattle.paths.specs.Differences.{hops};
 ghost use Rattle.paths.specs.Offered.{route};
 ghost use Rattle.paths.specs.Entries.{verdict_check, verdict_answer};
-ghost use Rattle.text.specs.Text.{ascii, told, pieces, Added};
+ghost use Rattle.text.specs.Text.{ascii, told, pieces, Said, Added};
 ghost use Rattle.transfers.specs.Transfer.{granted_text, refused_text, transfer_text};
 ghost use Rattle.transfers.specs.Words.{reason_line};
 ghost use Rattle.transfers.specs.Room.{reason_room, route_room, granted_room, refused_room, transfer_room};
@@ -17,9 +17,14 @@ ghost use Rattle.mesh.specs.declared.Refusal.{Refusal};
 use logfile::reading::line_of;
 use mesh::{Refusal, Sizes};
 use paths::Grant;
-use picture::drawing::picture;
+use picture::drawing::{picture, picture_into};
 use routes::entries::route;
-use text::Page;
+use text::{Page, say, tell};
+
+// Room for a refusal in words, and for the hops and the route.
+const REFUSED_ROOM: usize = 359;
+
+const GRANTED_ROOM: usize = 1057;
 
 // A line that ends with a refusal in words.
 pub fn say_refusal<const N: usize>(page: &mut Page<N>, word: &[u8], r: Refusal)
@@ -118,5 +123,51 @@ pub fn transfer<const N: usize>(
     match v {
         Ok(g) => granted(page, s, cells, start, end, g.hops),
         Err(r) => refused(page, s, cells, start, end, r),
+    }
+}
+
+// A refusal and its picture, stored in lent bytes.
+fn refused_into(
+    s: Sizes,
+    cells: &[u8],
+    start: usize,
+    end: usize,
+    r: Refusal,
+    out: &mut [u8],
+    at: usize,
+) -> usize
+    requires { (verdict_answer s cells.now start end ≡ Err r) × (at + refused_room ≤ length out.old) }
+    ensures { Said out.old at (refused_text s cells.now start end r) out.new result × (result ≤ at + refused_room) }
+{
+    let mut page = Page::<REFUSED_ROOM>::blank();
+    say_refusal(&mut page, b": refused ", r);
+    let next = say(page.text(), out, at);
+    if matches!(r, Refusal::NoPath) {
+        return picture_into(s, cells, start, end, out, next);
+    }
+    next
+}
+
+// The text for a transfer with its verdict, stored in lent bytes: a page for what is short, since one for a picture too costs more than the rest.
+pub fn transfer_into(
+    s: Sizes,
+    cells: &[u8],
+    k: usize,
+    start: usize,
+    end: usize,
+    v: Result<Grant, Refusal>,
+    out: &mut [u8],
+) -> usize
+    requires { (v ≡ verdict_answer s cells.now start end) × (transfer_room ≤ length out.old) }
+    ensures { Said out.old 0 (transfer_text s cells.now k start end) out.new result × (result ≤ transfer_room) }
+{
+    let next = tell(b"line %: % to %", &[k, start, end], out, 0);
+    match v {
+        Ok(g) => {
+            let mut page = Page::<GRANTED_ROOM>::blank();
+            granted(&mut page, s, cells, start, end, g.hops);
+            say(page.text(), out, next)
+        }
+        Err(r) => refused_into(s, cells, start, end, r, out, next),
     }
 }

@@ -10,7 +10,7 @@ use Rattle.mesh.specs.Cells.{map_of}
 use Rattle.mesh.proofs.Answers.{map_granted}
 use Rattle.format.specs.Entry.{read_answer}
 use Rattle.format.proofs.Read.{HasRead, has_read}
-use Rattle.text.proofs.Adding.{written}
+use Rattle.text.proofs.Adding.{filled}
 use Rattle.report.specs.Report.{refusal_line}
 use Rattle.gossiping.specs.Text.{map_text}
 use Rattle.gossiping.proofs.Read.{map_told, refusal_told}
@@ -32,18 +32,18 @@ invariant_of-shelf c =
     record { sized = k.sized; whole = k.whole; good = k.good }
 
 pub map_text-requires : goal.map_text-requires
-map_text-requires c = (search rules, omega (arith, ap length c.blank-page.ensures))
+map_text-requires c = (search rules, omega (arith, ap length c.clear.ensures))
 
 pub returns-in-Ok : goal.returns-in-Ok
 returns-in-Ok c =
     let known = has (goal.at.returns-in-Ok c).In-Ok in
     let S = c.in-Ok.s in
-    written c.blank-page.ensures c.map_text.ensures
-    ∙ ap (λ (l : List ℕ). map_text (map_of S l)) (known.cells c.nodes-n.ensures.0)
-    ∙ map_told _ S known.answer
+    filled c.clear.ensures c.map_text.ensures
+    (ap (λ (l : List ℕ). map_text (map_of S l)) (known.cells c.nodes-n.ensures.0) ∙ map_told _ S known.answer)
+    (omega arith)
 
 pub returns-in-Err : goal.returns-in-Err
 returns-in-Err c =
     let file = c.args.file.now in
     let is = ap (read_answer file) (sym (length-replicate {A = ℕ} 4096 0)) ∙ sym c.read_map.ensures.0 ∙ c.in-Err.is in
-    written c.blank-page.ensures c.refusal_line.ensures ∙ ap refusal_line c.from.ensures ∙ refusal_told file c.in-Err.r is
+    filled c.clear.ensures c.refusal_line.ensures (ap refusal_line c.from.ensures ∙ refusal_told file c.in-Err.r is) (omega arith)

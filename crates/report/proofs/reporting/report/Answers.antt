@@ -14,7 +14,7 @@ use Rattle.mesh.specs.declared.Refusal.{Refusal}
 use Rattle.format.specs.Format.{cells_in}
 use Rattle.format.specs.Entry.{read_answer}
 use Rattle.format.proofs.Read.{HasRead, has_read}
-use Rattle.text.proofs.Adding.{written}
+use Rattle.text.proofs.Adding.{filled}
 use Rattle.report.specs.Report.{map_report, refusal_line, report_on, report}
 use Rattle.report.proofs.reporting.report.Goals as goal
 use Rattle.report.proofs.reporting.report.Goals.{In-Ok}
@@ -42,19 +42,19 @@ invariant_of-shelf c =
     record { sized = k.sized; whole = k.whole; good = k.good }
 
 pub map_report-requires : goal.map_report-requires
-map_report-requires c = (search rules, omega (arith, ap length c.blank-page.ensures))
+map_report-requires c = (search rules, omega (arith, ap length c.clear.ensures))
 
 pub returns-in-Ok : goal.returns-in-Ok
 returns-in-Ok c =
     let known = has (goal.at.returns-in-Ok c).In-Ok in
     let S = c.in-Ok.s in
-    written c.blank-page.ensures c.map_report.ensures
-    ∙ ap (λ (l : List ℕ). map_report (map_of S l)) (known.cells c.nodes-n.ensures.0)
-    ∙ map_text _ S known.answer
+    filled c.clear.ensures c.map_report.ensures
+    (ap (λ (l : List ℕ). map_report (map_of S l)) (known.cells c.nodes-n.ensures.0) ∙ map_text _ S known.answer)
+    (omega arith)
 
 pub returns-in-Err : goal.returns-in-Err
 returns-in-Err c =
     let a = c.args in
     let r = c.in-Err.r in
     let is = ap (read_answer a.file.now) (sym (length-replicate {A = ℕ} 4096 0)) ∙ sym c.read_map.ensures.0 ∙ c.in-Err.is in
-    written c.blank-page.ensures c.refusal_line.ensures ∙ ap refusal_line c.from.ensures ∙ refusal_text a.file.now r is
+    filled c.clear.ensures c.refusal_line.ensures (ap refusal_line c.from.ensures ∙ refusal_text a.file.now r is) (omega arith)
