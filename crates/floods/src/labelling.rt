@@ -15,14 +15,18 @@ pub fn label(grid: &mut Grid, h: usize, d: usize, found: &mut Found)
 {
     let mut flood = Flood::new();
     found.clear();
+    // What is found is only written until the end, so that a caller who asks for no records has none made.
+    let mut n = 0;
     for z in 0..d {
         let from = FIRST + LAYER * z;
         for at in from..from + ROW * h {
             if grid.cells[at] != UNSEEN {
                 continue;
             }
-            flood.fill(grid, at, (found.count + 1) as u16);
-            found.push(record_of(flood.as_slice()));
+            flood.fill(grid, at, (n + 1) as u16);
+            found.records[n] = record_of(flood.as_slice());
+            n += 1;
         }
     }
+    found.count = n;
 }

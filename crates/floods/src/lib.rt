@@ -1,7 +1,7 @@
 // The components of a grid, one after another: each gets its number by a flood from its lowest node, and its record from the places flooded.
 #![tactic(auto)]
 
-ghost use Rattle.std.specs.Prelude.{◌≡◌, ◌+◌, ◌<◌, ◌≤◌, min, length, set, take};
+ghost use Rattle.std.specs.Prelude.{◌≡◌, ◌≤◌, min, length, take};
 ghost use Rattle.floods.specs.Label.{no_records};
 
 mod flood;
@@ -51,15 +51,6 @@ impl Found {
     {
         self.count = 0;
         self.records = blank_records();
-    }
-
-    // One more.
-    pub(crate) fn push(&mut self, c: Component)
-        requires { self.old.count < 1024 }
-        ensures { (self.new.count ≡ self.old.count + 1) × (self.new.records ≡ set self.old.records self.old.count c) }
-    {
-        self.records[self.count] = c;
-        self.count += 1;
     }
 
     // Keeps the first n.

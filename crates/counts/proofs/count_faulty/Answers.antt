@@ -1,11 +1,24 @@
--- `counts::count_faulty` meets its contract. Assumes nothing.
-use Rattle.std.proofs.Common.{rules, ◌≡◌, ◌∙◌}
-use Rattle.std.specs.List.{count_by}
-use Rattle.mesh.specs.Cells.{faulty_cell}
-use Rattle.counts.proofs.Tally.{count_by_is}
+-- `counts::count_faulty` meets its contract: n of the first cells are of faulty nodes. Assumes nothing.
+use mathlib.Core.Path.{◌≡◌, ap, ◌∙◌}
+use Prim.Native.Nat.{ℕ}
+use native.Mathlib.Omega.{arith}
+use lib.ListN.{length}
+use Rattle.mesh.specs.Tools.{count}
+use Rattle.counts.proofs.Tally.{none, one_more}
+use Rattle.counts.proofs.count_faulty.Invariants.{is_faulty}
 use Rattle.counts.proofs.count_faulty.Goals as goal
+
+pub loop-cell-init : goal.loop-cell-init
+loop-cell-init c = none _
+
+pub loop-cell-preserved : goal.loop-cell-preserved
+loop-cell-preserved c =
+    let l = c.loop-cell in
+    one_more (is_faulty c.args.cells.now) l.cell-index l.n _ l.invariant c.faulty_bit.ensures
 
 pub returns : goal.returns
 returns c =
-    let e : c.count.result ≡ count_by faulty_cell c.args.cells.now = search rules in
-    e ∙ count_by_is faulty_cell c.args.cells.now
+    let l = c.loop-cell in
+    let cells = c.args.cells.now in
+    let e : l.cell-index ≡ length cells = omega arith in
+    l.invariant.is ∙ ap (λ (k : ℕ). count k (is_faulty cells)) e

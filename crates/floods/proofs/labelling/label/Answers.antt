@@ -29,8 +29,8 @@ record_of-requires c =
           (spots T u c.fill.ensures t (omega (arith, many))),
     )
 
-pub push-requires : goal.push-requires
-push-requires c = few_yet c.loop-at.invariant c.if-grid-at.false
+pub bounds-found-n : goal.bounds-found-n
+bounds-found-n c = few_yet c.loop-at.invariant c.if-grid-at.false
 
 pub loop-at-preserved : goal.loop-at-preserved
 loop-at-preserved c =
@@ -38,7 +38,7 @@ loop-at-preserved c =
     let many = reached (goal.at.loop-at-preserved c).After-as_slice in
     let (count, box) = c.record_of.ensures in
     turn_more c.loop-at.invariant c.if-grid-at.false c.fill.ensures c.fill.new.grid.whole c.record_of.result (count ∙ many)
-    (boxed_front q.places q.tail c.record_of.result (rw (many, c.as_slice.ensures) at box)) c.push.new.self c.push.ensures.0 c.push.ensures.1
+    (boxed_front q.places q.tail c.record_of.result (rw (many, c.as_slice.ensures) at box)) c.loop-at.found.room
 
 pub loop-z-preserved : goal.loop-z-preserved
 loop-z-preserved c =
