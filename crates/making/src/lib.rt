@@ -36,7 +36,7 @@ fn put_node(shelf: &Shelf, o: usize, state: &mut [u8], p: Place)
     if faulty_cell(shelf.cells[k]) {
         put_bytes(state, k, 1, Six::each(faulty_hears()));
     } else {
-        let heard = around::<1>(s, shelf.cells, p, k);
+        let heard = around(s, shelf.cells, 1, p, k);
         put_bytes(state, k, heard.ruled(s, o), heard);
     }
 }

@@ -1,5 +1,5 @@
 // The one scan of a state: is it sound, and how many words are outstanding? The nodes in their order, row by row, each with six bytes at once, so
-// that a node leads to one branch, by whether all is right.
+// that a node leads to two branches alone, by whether it is faulty and by whether all is right.
 #![tactic(auto)]
 
 ghost use Rattle.std.specs.Prelude.{◌≡◌, false, ◌*◌, ◌<◌, ◌≤◌, MatchOption};
@@ -25,7 +25,7 @@ fn node(s: Sizes, o: usize, state: &[u8], p: Place) -> Option<Six>
     let k = s.number(p);
     let own = state[7 * k];
     let told = Six::heard(state, k);
-    let said = around::<7>(s, state, p, k);
+    let said = around(s, state, 7, p, k);
     let failed = told == Six::each(faulty_hears());
     let works = (own == told.ruled(s, o)) & (told | said & Six::each(6) == said);
     let news = (said ^ told).some();
