@@ -169,7 +169,7 @@ answered_granted S checked g count room old new e C =
     }
 
 module _ (S : Sizes) (cells : List ℕ) (o : ℕ) where
-  -- an empty grid holds nothing that could be answered
+  -- an empty grid holds nothing that could be numbered
   pub laid_untouched : (a : Answer) → marks_answer S cells o 4096 ≡ a → (g : List ℕ) → Gridded S cells o a g → Untouched g
   laid_untouched (Ok _) done g is = untouched S (sized S cells o [] 0 done) (marks_of (map_of S cells) o) g (marks_length (map_of S cells) o) is
   laid_untouched (Err x) e g is = λ j. inl (is j)

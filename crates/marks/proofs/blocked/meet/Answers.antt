@@ -17,8 +17,8 @@ loop-x-preserved c =
     let r = c.requires in
     let i = c.into_iter-x-iterator.result in
     let of : ℕ → List ℕ = stretch a.cells.now a.n in
-    let all = YieldsList-from_zip (YieldsList-from_zip (YieldsList-from_slice {s = i.a.a} (of a.p) (cc)) (YieldsList-from_slice {s = i.a.b} (of a.q) (cc)))
-    (YieldsList-from_slice {s = i.b} (of a.r) (cc)) in
+    let all = YieldsList-from_zip (YieldsList-from_zip (YieldsList-from_slice {s = i.a.a} (of a.p) (grind arith)) (YieldsList-from_slice {s = i.a.b} (of a.q) (grind arith)))
+    (YieldsList-from_slice {s = i.b} (of a.r) (grind arith)) in
     let t = YieldsList-turn all l.yielded _ l.yielded_by _ c.next.new.self _ c.in-Some.is c.next.ensures.steps in
     let long = three_long a.cells.now a.n a.p a.q a.r r.0 r.1 r.2 in
     let at = three_at a.cells.now a.n a.p a.q a.r r.0 r.1 r.2 (length l.yielded) _ (omega (arith, t.0, long)) t.1 in
@@ -34,8 +34,8 @@ returns c t =
     let r = c.requires in
     let i = c.into_iter-x-iterator.result in
     let of : ℕ → List ℕ = stretch a.cells.now a.n in
-    let all = YieldsList-from_zip (YieldsList-from_zip (YieldsList-from_slice {s = i.a.a} (of a.p) (cc)) (YieldsList-from_slice {s = i.a.b} (of a.q) (cc)))
-    (YieldsList-from_slice {s = i.b} (of a.r) (cc)) in
+    let all = YieldsList-from_zip (YieldsList-from_zip (YieldsList-from_slice {s = i.a.a} (of a.p) (grind arith)) (YieldsList-from_slice {s = i.a.b} (of a.q) (grind arith)))
+    (YieldsList-from_slice {s = i.b} (of a.r) (grind arith)) in
     let e = YieldsList-end all l.yielded _ l.yielded_by _ c.next.new.self c.in-None.is c.next.ensures.steps in
     subst (λ (n : ℕ). Apart a.cells.now a.p a.q a.r n) (e.1 ∙ three_long a.cells.now a.n a.p a.q a.r r.0 r.1 r.2)
     (l.invariant (eqb-true l.met 0 (not-false _ t)))
