@@ -1,5 +1,5 @@
 // All components, one after another by their lowest node.
-ghost use Rattle.std.specs.Prelude.{◌<◌, ◌≤◌};
+ghost use Rattle.std.specs.Prelude.{◌≡◌, ◌<◌, ◌≤◌, length};
 ghost use Rattle.grids.specs.Grid.{grid_size};
 ghost use Rattle.floods.specs.Label.{Untouched, Within, Labelled};
 
@@ -29,4 +29,15 @@ pub fn label(grid: &mut Grid, h: usize, d: usize, found: &mut Found)
         }
     }
     found.count = n;
+}
+
+// The same of a grid that lies in lent places.
+pub fn label_in(places: &mut [u16], h: usize, d: usize, found: &mut Found)
+    requires { (length places.old ≡ grid_size) × Untouched places.old × Within h d places.old × (d ≤ 16) × (0 < d → h ≤ 16) }
+    ensures { Labelled places.old grid_size found.new.count places.new found.new.records }
+{
+    let mut grid = Grid::blank();
+    grid.cells.copy_from_slice(places);
+    label(&mut grid, h, d, found);
+    places.copy_from_slice(&grid.cells);
 }
